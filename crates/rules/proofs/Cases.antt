@@ -1,0 +1,38 @@
+-- The printed run and cases a to l hold by computation. Assumes nothing.
+use mathlib.Core.Path.{refl}
+use Rattle.rules.specs.Words.{_if_else_}
+use Rattle.rules.specs.Table.{_then_, refuse}
+use Rattle.rules.specs.Jobs.{keyAt, before}
+use Rattle.rules.specs.Calls.{refusal}
+use Rattle.rules.specs.Late.{isPast}
+use Rattle.rules.specs.Number.{joined, restOf, numberOf}
+use Rattle.rules.specs.Cases.{Cases}
+
+pub cases : Cases
+unfolding keyAt before refusal isPast _if_else_ _then_ refuse joined restOf numberOf
+cases =
+    record {
+      printed-run = refl;
+      printed-counts = refl;
+      a-stays-delayed = refl;
+      a-runs-on = refl;
+      b-no-second-start = refl;
+      c-behind-its-equal = refl;
+      d-own-deadlines = refl;
+      d-second-due = refl;
+      e-refused = refl;
+      e-kernel = refl;
+      e-plain = refl;
+      f-refused = refl;
+      g-accepted = refl;
+      h-chain = refl;
+      h-activate = refl;
+      i-nothing-runs = refl;
+      i-goes-back = refl;
+      j-on-time = refl;
+      j-late = refl;
+      k-not-shortest = refl;
+      k-cut-off = refl;
+      l-fits = refl;
+      l-too-many = refl;
+    }

@@ -1,0 +1,185 @@
+-- Demand 3: on a table that keeps the rule the kernel runs what the plain scheduler runs, after each call. Assumes nothing.
+use Prim.Native.Nat.{ℕ, zero, suc}
+use mathlib.Core.Path.{_≡_, refl, ap, sym, _∙_, subst}
+use mathlib.Core.Logic.{_↔_}
+use mathlib.Core.Bool.{Bool, true, false, cond}
+use mathlib.Core.List.{List, [], _∷_, map}
+use mathlib.Core.Option.{Option, some, none}
+use lib.ListN.{length}
+use lib.Dec.{eqb}
+use Rattle.rules.specs.declared.Tick.{Tick}
+use Rattle.rules.specs.declared.Phase.{Phase}
+use Rattle.rules.specs.declared.Phase.the-variants.{Delayed, Released}
+use Rattle.rules.specs.declared.Call.{Call}
+use Rattle.rules.specs.declared.Call.the-variants.{Wait, Activate, Terminate, Chain}
+use Rattle.rules.specs.declared.Choice.the-variants.{Idle}
+use Rattle.rules.specs.Words.{unless, countBy, count, insertBy}
+use Rattle.rules.specs.Table.{Table, Keeps, priorityOf}
+use Rattle.rules.specs.Jobs.{Job, Pending, accepted, bare, newJob, before}
+use Rattle.rules.specs.Kernel.{dispatched}
+use Rattle.rules.specs.Calls.{View, refusal, tickOf}
+use Rattle.rules.specs.Late.{toldAt}
+use Rattle.rules.specs.Layer.{Board, fresh, insert, isFirst, isOf, without, settled, settledBy, entered, moves, watched, done, next, result, viewed, shown, choice, running, runningJob, tasks}
+use Rattle.rules.specs.Plain.{Plain, start, unended, plainRuns, plainTasks, plainViewed, plainResult, plainMoved, plainNext, plainRun, plainChoice}
+use Rattle.rules.specs.Run.{run}
+use Rattle.rules.specs.Statement.{Agree, Demand3}
+use Rattle.rules.proofs.Lists.{rest-of, map-insert, count-map}
+use Rattle.rules.proofs.Moves.{without-told}
+use Rattle.rules.proofs.Order.{Higher, ranks}
+use Rattle.rules.proofs.Sorted.{sorted, runs-of, task-of, choice-sorted, unended-sorted, runs-sorted, count-sorted, length-sorted}
+use Rattle.rules.proofs.Invariant.{Good}
+use Rattle.rules.proofs.Step.{done-good}
+use Rattle.rules.proofs.First.{first-of, first-task, top-first, leaves, runs-first}
+
+-- the layer's list is the plain scheduler's jobs in order
+pub record Related (T : Table) (b : Board) (p : Plain) : Type 0 where
+  pub last : b .last ≡ p .last
+  pub list : map bare (b .jobs) ≡ sorted T (p .pending)
+
+-- ---- two views are alike to a call if what it looks at is
+
+module _ (T : Table) (v w : View) (a : v .last ≡ w .last) where
+  alike-wait : (t : Tick) → refusal T v (Wait t) ≡ refusal T w (Wait t)
+  unfolding refusal
+  alike-wait t = rw a
+
+  alike-activate : (t : Tick) (n : ℕ) → count n (v .pending) ≡ count n (w .pending) → length (v .pending) ≡ length (w .pending) → refusal T v (Activate t n) ≡ refusal T w (Activate t n)
+  unfolding refusal
+  alike-activate t n c s = rw (a, c, s)
+
+  alike-end : (t : Tick) → v .runs ≡ w .runs → refusal T v (Terminate t) ≡ refusal T w (Terminate t)
+  unfolding refusal
+  alike-end t r = rw (a, r)
+
+  alike-chain : (t : Tick) (n : ℕ) → v .runs ≡ w .runs → count n (v .others) ≡ count n (w .others) → refusal T v (Chain t n) ≡ refusal T w (Chain t n)
+  unfolding refusal
+  alike-chain t n r o = rw (a, r, o)
+
+-- ---- a list of jobs and what the plain scheduler knows of them
+
+tasks-bare : (l : List Job) → tasks l ≡ plainTasks (map bare l)
+tasks-bare [] = refl
+tasks-bare (j ∷ l) = ap (λ z. j .task ∷ z) (tasks-bare l)
+
+first-bare : (l : List Job) → first-task l ≡ task-of (map bare l)
+first-bare [] = refl
+first-bare (j ∷ l) = refl
+
+shown-bare : (l : List Job) → shown (first-of l) ≡ runs-of (map bare l)
+shown-bare [] = refl
+shown-bare (j ∷ l) = refl
+
+rest-bare : (l : List Job) → map bare (rest-of l) ≡ rest-of (map bare l)
+rest-bare [] = refl
+rest-bare (j ∷ l) = refl
+
+length-tasks : (p : List Pending) → length (plainTasks p) ≡ length p
+length-tasks [] = refl
+length-tasks (j ∷ p) = ap suc (length-tasks p)
+
+told-bare : (t : Tick) (l : List Job) → map bare (map (toldAt t) l) ≡ map bare l
+told-bare t [] = refl
+told-bare t (j ∷ l) = ap (λ z. bare j ∷ z) (told-bare t l)
+
+settled-bare : (l : List Job) → map bare ((settled l) .jobs) ≡ map bare l
+settled-bare [] = refl
+settled-bare (j ∷ l) = go (j .phase)
+  where
+    go : (s : Phase) → map bare ((settledBy s j l) .jobs) ≡ map bare (j ∷ l)
+    go Delayed = refl
+    go Released = refl
+
+entered-bare : (T : Table) (j : Pending) (l : List Job) (f : Bool) → map bare ((entered (before T) j l f) .jobs) ≡ insertBy (before T) j (map bare l)
+entered-bare T j l true = map-insert bare (before T) (newJob Released j) l
+entered-bare T j l false = map-insert bare (before T) (newJob Delayed j) l
+
+count-tasks : (T : Table) (n : ℕ) (l : List Job) (p : List Pending) → map bare l ≡ sorted T p → count n (tasks l) ≡ count n (plainTasks p)
+count-tasks T n l p e =
+    ap (count n) (tasks-bare l ∙ ap plainTasks e) ∙ count-map (eqb n) (λ (j : Pending). j .task) (sorted T p)
+    ∙ count-sorted T (λ (j : Pending). eqb n (j .task)) p ∙ sym (count-map (eqb n) (λ (j : Pending). j .task) p)
+
+-- ---- one call
+
+module _ (T : Table) (keeps : Keeps T) (b : Board) (p : Plain) (g : Good T (Higher T) b) (r : Related T b p) where
+  -- a job that may end is the one that priority picks
+  top : running T b ≡ dispatched (priorityOf T) (b .ready)
+  top = refl
+
+  runs-alike : running T b ≡ plainRuns T (p .pending)
+  runs-alike = top-first T keeps (b .last) (b .jobs) (b .ready) g (running T b) top ∙ first-bare (b .jobs) ∙ ap task-of (r .list) ∙ sym (runs-sorted T (p .pending))
+
+  rest-list : map bare (without (running T b) (b .jobs)) ≡ sorted T (unended T (p .pending))
+  rest-list =
+      ap (map bare) (leaves T keeps (b .last) (b .jobs) (b .ready) g (running T b) top) ∙ rest-bare (b .jobs) ∙ ap rest-of (r .list) ∙ sym (unended-sorted T (p .pending))
+
+  -- the same once late jobs were told of
+  told-list : (t : Tick) → map bare (map (toldAt t) (b .jobs)) ≡ sorted T (p .pending)
+  told-list t = told-bare t (b .jobs) ∙ r .list
+
+  told-rest : (t : Tick) → map bare (without (running T b) (map (toldAt t) (b .jobs))) ≡ sorted T (unended T (p .pending))
+  told-rest t = ap (map bare) (without-told t (running T b) (b .jobs)) ∙ told-bare t (without (running T b) (b .jobs)) ∙ rest-list
+
+  pub results-alike : (e : Call) → result T b e ≡ plainResult T p e
+  results-alike (Wait t) = alike-wait T (viewed T b) (plainViewed T p) (r .last) t
+  results-alike (Activate t n) =
+      alike-activate T (viewed T b) (plainViewed T p) (r .last) t n (count-tasks T n (b .jobs) (p .pending) (r .list))
+      (ap length (tasks-bare (b .jobs) ∙ ap plainTasks (r .list)) ∙ length-tasks (sorted T (p .pending)) ∙ length-sorted T (p .pending) ∙ sym (length-tasks (p .pending)))
+  results-alike (Terminate t) = alike-end T (viewed T b) (plainViewed T p) (r .last) t runs-alike
+  results-alike (Chain t n) =
+      alike-chain T (viewed T b) (plainViewed T p) (r .last) t n runs-alike
+      (count-tasks T n (without (running T b) (b .jobs)) (unended T (p .pending)) rest-list)
+
+  moved-list : (e : Call) → map bare ((moves T (watched (tickOf e) b) e) .jobs) ≡ sorted T (plainMoved T (p .pending) e)
+  moved-list (Wait t) = told-list t
+  moved-list (Activate t n) =
+      entered-bare T (accepted T t n) (map (toldAt t) (b .jobs)) (isFirst (before T) (accepted T t n) (map (toldAt t) (b .jobs)))
+      ∙ ap (insertBy (before T) (accepted T t n)) (told-list t)
+  moved-list (Terminate t) = settled-bare (without (running T b) (map (toldAt t) (b .jobs))) ∙ told-rest t
+  moved-list (Chain t n) =
+      settled-bare (insert (before T) (newJob Delayed (accepted T t n)) (without (running T b) (map (toldAt t) (b .jobs))))
+      ∙ map-insert bare (before T) (newJob Delayed (accepted T t n)) (without (running T b) (map (toldAt t) (b .jobs)))
+      ∙ ap (insertBy (before T) (accepted T t n)) (told-rest t)
+
+  pub runs-job : runningJob T b ≡ first-of (b .jobs)
+  runs-job = runs-first T keeps (b .last) (b .jobs) (b .ready) g (running T b) top
+
+  pub same-choice : choice T b ≡ plainChoice T (p .pending)
+  same-choice = ap shown runs-job ∙ shown-bare (b .jobs) ∙ ap runs-of (r .list) ∙ sym (choice-sorted T (p .pending))
+
+-- both, after any calls
+pub record Both (T : Table) (b : Board) (p : Plain) : Type 0 where
+  pub good : Good T (Higher T) b
+  pub related : Related T b p
+
+next-by : (T : Table) → Keeps T → (b : Board) (p : Plain) → Both T b p → (e : Call) (k : ℕ) → result T b e ≡ k
+    → Both T (unless k b (done T (watched (tickOf e) b) e)) (unless k p (record { last = tickOf e; pending = plainMoved T (p .pending) e }))
+next-by T keeps b p h e zero z =
+    record { good = done-good T (Higher T) (ranks T keeps) b (h .good) e z; related = record { last = refl; list = moved-list T keeps b p (h .good) (h .related) e } }
+next-by T keeps b p h e (suc k) z = h
+
+pub next-both : (T : Table) → Keeps T → (b : Board) (p : Plain) → Both T b p → (e : Call) → Both T (next T b e) (plainNext T p e)
+next-both T keeps b p h e =
+    subst (λ (k : ℕ). Both T (next T b e) (unless k p (record { last = tickOf e; pending = plainMoved T (p .pending) e })))
+    (results-alike T keeps b p (h .good) (h .related) e) (next-by T keeps b p h e (result T b e) refl)
+
+pub run-both : (T : Table) → Keeps T → (b : Board) (p : Plain) → Both T b p → (es : List Call) → Both T (run T b es) (plainRun T p es)
+run-both T keeps b p h [] = h
+run-both T keeps b p h (e ∷ es) = run-both T keeps (next T b e) (plainNext T p e) (next-both T keeps b p h e) es
+
+pub fresh-both : (T : Table) → Both T fresh start
+fresh-both T = record { good = record { sound = tt; lined = record { ordered = tt; first = tt; queue = refl } }; related = record { last = refl; list = refl } }
+
+idle-first : (l : List Job) → (shown (first-of l) ≡ Idle) ↔ (l ≡ [])
+idle-first [] = (λ e. refl, λ e. refl)
+idle-first (j ∷ l) = (λ e. cc, λ e. cc)
+
+pub agrees : (T : Table) → Keeps T → (b : Board) (p : Plain) → Both T b p → Agree T b p
+agrees T keeps b p h =
+    record {
+      same = same-choice T keeps b p (h .good) (h .related);
+      idle = rw (runs-job T keeps b p (h .good) (h .related)) (idle-first (b .jobs));
+      results = results-alike T keeps b p (h .good) (h .related);
+    }
+
+pub demand-3 : Demand3
+demand-3 T keeps calls = agrees T keeps (run T fresh calls) (plainRun T start calls) (run-both T keeps fresh start (fresh-both T) calls)

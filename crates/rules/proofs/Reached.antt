@@ -1,0 +1,58 @@
+-- What code may use of a state that was handed out and has since been changed by nothing but calls. Assumes nothing.
+use Prim.Native.Nat.{ℕ, _≤_}
+use mathlib.Core.Path.{_≡_, refl, ap, sym, _∙_, subst⁻¹}
+use mathlib.Core.List.{List, [], _∷_, _++_}
+use mathlib.Core.Option.{Option}
+use lib.ListN.{length}
+use Rattle.rules.specs.declared.Call.{Call}
+use Rattle.rules.specs.Words.{All}
+use Rattle.rules.specs.Table.{Table, Keeps}
+use Rattle.rules.specs.Layer.{Board, fresh, next, without, running, runningJob}
+use Rattle.rules.specs.Run.{run, Head, freshHead, headNext, headRun, Reached}
+use Rattle.rules.proofs.Lists.{rest-of}
+use Rattle.rules.proofs.Order.{Higher, ranks}
+use Rattle.rules.proofs.Invariant.{Good}
+use Rattle.rules.proofs.Step.{fresh-good}
+use Rattle.rules.proofs.First.{first-of, first-task, top-first, leaves, runs-first}
+use Rattle.rules.proofs.Room.{room-for-all}
+use Rattle.rules.proofs.Reported.{Told, fresh-told}
+
+pub run-last : (T : Table) (h : Head) (es : List Call) (e : Call) → headRun T h (es ++ (e ∷ [])) ≡ headNext T (headRun T h es) e
+run-last T h [] e = refl
+run-last T h (d ∷ es) e = run-last T (headNext T h d) es e
+
+-- the board of a state runs by itself
+pub head-board : (T : Table) (h : Head) (es : List Call) → (headRun T h es) .board ≡ run T (h .board) es
+head-board T h [] = refl
+head-board T h (e ∷ es) = head-board T (headNext T h e) es
+
+-- a fresh state is reached, and what a call leaves is
+pub reached-fresh : (T : Table) → Reached T freshHead
+reached-fresh T = record { calls = []; is = refl }
+
+pub reached-next : (T : Table) (h : Head) → Reached T h → (e : Call) → Reached T (headNext T h e)
+reached-next T h r e = record { calls = r .calls ++ (e ∷ []); is = ap (λ z. headNext T z e) (r .is) ∙ sym (run-last T freshHead (r .calls) e) }
+
+module _ (T : Table) (keeps : Keeps T) (h : Head) (r : Reached T h) where
+  reached-board : h .board ≡ run T fresh (r .calls)
+  reached-board = ap (λ (z : Head). z .board) (r .is) ∙ head-board T freshHead (r .calls)
+
+  pub reached-good : Good T (Higher T) (h .board)
+  reached-good = subst⁻¹ (Good T (Higher T)) reached-board (fresh-good T (Higher T) (ranks T keeps) (r .calls))
+
+  pub reached-told : All (Told (h .board .last)) (h .board .jobs)
+  reached-told = subst⁻¹ (λ (z : Board). All (Told (z .last)) (z .jobs)) reached-board (fresh-told T (keeps .passes) (r .calls))
+
+  -- the list has room
+  pub reached-room : length (h .board .jobs) ≤ 32
+  reached-room = subst⁻¹ (λ (z : Board). length (z .jobs) ≤ 32) reached-board (room-for-all T (keeps .passes) (r .calls))
+
+  -- the first job runs, and leaves when it ends
+  pub reached-task : running T (h .board) ≡ first-task (h .board .jobs)
+  reached-task = top-first T keeps (h .board .last) (h .board .jobs) (h .board .ready) reached-good (running T (h .board)) refl
+
+  pub reached-runs : runningJob T (h .board) ≡ first-of (h .board .jobs)
+  reached-runs = runs-first T keeps (h .board .last) (h .board .jobs) (h .board .ready) reached-good (running T (h .board)) refl
+
+  pub reached-leaves : without (running T (h .board)) (h .board .jobs) ≡ rest-of (h .board .jobs)
+  reached-leaves = leaves T keeps (h .board .last) (h .board .jobs) (h .board .ready) reached-good (running T (h .board)) refl

@@ -1,0 +1,158 @@
+-- The list and its releases on any table: in order, the first job released, each by exactly one kernel call. Assumes nothing.
+use Prim.Native.Nat.{ℕ, zero, suc, _+_}
+use mathlib.Core.Path.{_≡_, refl, ap, sym, _∙_}
+use mathlib.Core.Bool.{Bool, true, false, cond, _&&_}
+use mathlib.Core.List.{List, [], _∷_, _++_, map}
+use mathlib.Core.Option.{Option, some, none}
+use lib.Dec.{eqb}
+use native.Mathlib.Omega.{arith}
+use Rattle.rules.specs.declared.Tick.{Tick}
+use Rattle.rules.specs.declared.Phase.{Phase}
+use Rattle.rules.specs.declared.Phase.the-variants.{Delayed, Released}
+use Rattle.rules.specs.declared.Call.{Call}
+use Rattle.rules.specs.declared.Call.the-variants.{Wait, Activate, Terminate, Chain}
+use Rattle.rules.specs.declared.KernelCall.the-variants.{NoCall}
+use Rattle.rules.specs.Words.{unless, countBy, count, Pairs}
+use Rattle.rules.specs.Table.{Table}
+use Rattle.rules.specs.Jobs.{Job, Pending, accepted, bare, newJob, Before, before}
+use Rattle.rules.specs.Kernel.{ended, kernel}
+use Rattle.rules.specs.Calls.{tickOf}
+use Rattle.rules.specs.Late.{toldAt}
+use Rattle.rules.specs.Layer.{Board, fresh, next, done, watched, result, running, runningIn, isOf, isReleased, without, insert, isFirst, settled, settledBy, entered, moves, answer}
+use Rattle.rules.specs.Counts.{ending}
+use Rattle.rules.specs.Run.{run}
+use Rattle.rules.specs.Statement.{pushed, releasedOf, ListHolds, Inserted, InsertsBehind, starts, started, Ended, endedAt, endedBy, endings, endedOf, StartedOnce}
+use Rattle.rules.proofs.Lists.{all-map, count-append}
+use Rattle.rules.proofs.Bools.{and-true-both}
+use Rattle.rules.proofs.Order.{Other, others, before-true, before-false, passing}
+use Rattle.rules.proofs.Invariant.{Ordered, Good, ends, not-live}
+use Rattle.rules.proofs.Step.{next-good, fresh-good}
+
+module _ (T : Table) where
+  in-order : (l : List Job) → Ordered T Other l → Pairs (λ (j k : Job). Before T (bare k) (bare j) → ⊥) l
+  in-order [] o = tt
+  in-order (j ∷ l) o = (all-map (λ k a. before-false T (bare k) (bare j) (a .order)) l (o .0), in-order l (o .1))
+
+  one-each : (l : List Job) → Ordered T Other l → Pairs (λ (j k : Job). j .phase ≡ Released → k .phase ≡ Released → j .task ≡ k .task → ⊥) l
+  one-each [] o = tt
+  one-each (j ∷ l) o = (all-map (λ k a r s. a .over s) l (o .0), one-each l (o .1))
+
+  -- a new job goes in front of the first job that it goes before, and so before all behind that one
+  inserts : (j : Job) (l : List Job) → Ordered T Other l → Inserted T j l (insert (before T) j l)
+  inserts j [] o = record { front = []; back = []; was = refl; is = refl; behind = tt; ahead = tt }
+  inserts j (k ∷ l) o = go (before T (bare j) (bare k)) refl (inserts j l (o .1))
+    where
+      go : (t : Bool) → before T (bare j) (bare k) ≡ t → Inserted T j l (insert (before T) j l) → Inserted T j (k ∷ l) (cond t (j ∷ k ∷ l) (k ∷ insert (before T) j l))
+      go true e h =
+          let f = before-true T (bare j) (bare k) e in
+          record {
+            front = [];
+            back = k ∷ l;
+            was = refl;
+            is = refl;
+            behind = tt;
+            ahead = (f, all-map (λ m a. passing T (bare j) (bare k) (bare m) f (before-false T (bare m) (bare k) (a .order))) l (o .0));
+          }
+      go false e h =
+          record {
+            front = k ∷ h .front;
+            back = h .back;
+            was = ap (λ z. k ∷ z) (h .was);
+            is = ap (λ z. k ∷ z) (h .is);
+            behind = (before-false T (bare j) (bare k) e, h .behind);
+            ahead = h .ahead;
+          }
+
+pub list-holds : ListHolds
+list-holds T calls =
+    let g = fresh-good T Other (others T) calls in
+    let l = (run T fresh calls) .jobs in
+    record { ordered = in-order T l (g .lined .ordered); first = g .lined .first; queue = g .lined .queue; one-each = one-each T l (g .lined .ordered) }
+
+pub inserts-behind : InsertsBehind
+inserts-behind T calls j = inserts T j ((run T fresh calls) .jobs) (fresh-good T Other (others T) calls .lined .ordered)
+
+-- ---- each by one kernel call
+
+-- the job that ends was one of the released
+ending-count : (n : ℕ) (t : Tick) (r : Option ℕ) (l : List Job)
+    → endedOf n (endedAt t (runningIn r l)) + count n (releasedOf (without r l)) ≡ count n (releasedOf l)
+ending-count n t none l = omega arith
+ending-count n t (some m) [] = refl
+ending-count n t (some m) (j ∷ l) = go (isOf m j) refl (ending-count n t (some m) l)
+  where
+    push : (s : Phase) (q q′ : List ℕ) (k : ℕ) → k + count n q ≡ count n q′ → k + count n (pushed s (j .task) q) ≡ count n (pushed s (j .task) q′)
+    push Delayed q q′ k e = e
+    push Released q q′ k e = omega (arith, count-append (eqb n) q (j .task ∷ []), count-append (eqb n) q′ (j .task ∷ []))
+
+    front : (s : Phase) → isReleased s ≡ true → count n (j .task ∷ []) + count n (releasedOf l) ≡ count n (pushed s (j .task) (releasedOf l))
+    front Delayed e = let z : _≡_ {A = ℕ} 0 1 = cc in absurd (omega arith)
+    front Released e = omega (arith, count-append (eqb n) (releasedOf l) (j .task ∷ []))
+
+    go : (t′ : Bool) → isOf m j ≡ t′ → endedOf n (endedAt t (runningIn (some m) l)) + count n (releasedOf (without (some m) l)) ≡ count n (releasedOf l)
+        → endedOf n (endedAt t (cond t′ (some j) (runningIn (some m) l))) + count n (releasedOf (cond t′ l (j ∷ without (some m) l))) ≡ count n (releasedOf (j ∷ l))
+    go true e ih = front (j .phase) (and-true-both (eqb m (j .task)) (isReleased (j .phase)) e .1)
+    go false e ih = push (j .phase) (releasedOf (without (some m) l)) (releasedOf l) (endedOf n (endedAt t (runningIn (some m) l))) ih
+
+-- what is chained to is started
+settled-count : (n : ℕ) (r : Option ℕ) (q : List ℕ) (l : List Job) → count n (starts ((settled l) .call)) + count n (ended r q) ≡ count n (kernel r ((settled l) .call) q)
+settled-count n r q [] = omega arith
+settled-count n r q (j ∷ l) = go (j .phase)
+  where
+    go : (s : Phase) → count n (starts ((settledBy s j l) .call)) + count n (ended r q) ≡ count n (kernel r ((settledBy s j l) .call) q)
+    go Delayed = omega (arith, count-append (eqb n) (ended r q) (j .task ∷ []))
+    go Released = omega arith
+
+entered-count : (T : Table) (n : ℕ) (r : Option ℕ) (q : List ℕ) (j : Pending) (l : List Job) (f : Bool)
+    → count n (starts ((entered (before T) j l f) .call)) + count n q ≡ count n (kernel r ((entered (before T) j l f) .call) q)
+entered-count T n r q j l true = omega (arith, count-append (eqb n) q (j .task ∷ []))
+entered-count T n r q j l false = omega arith
+
+module _ (T : Table) (n : ℕ) where
+  -- the queue grows by what was started and shrinks by what ended
+  ends-count : (b : Board) → Good T Other b → (t : Tick) → endedOf n (endedAt t (runningIn (running T b) (b .jobs))) + count n (ended (running T b) (b .ready)) ≡ count n (b .ready)
+  ends-count b g t =
+      ap (λ z. endedOf n (endedAt t (runningIn (running T b) (b .jobs))) + count n z)
+      (ap (ended (running T b)) (g .lined .queue) ∙ ends T Other (others T) (running T b) (b .jobs) (g .lined .ordered))
+      ∙ ending-count n t (running T b) (b .jobs) ∙ ap (count n) (sym (g .lined .queue))
+
+  moves-count : (b : Board) → Good T Other b → (e : Call)
+      → count n (starts ((moves T (watched (tickOf e) b) e) .call)) + count n (b .ready)
+      ≡ endedOf n (endedAt (tickOf e) (ending T b e)) + count n ((done T (watched (tickOf e) b) e) .ready)
+  moves-count b g (Wait t) = refl
+  moves-count b g (Activate t m) =
+      let l = map (toldAt t) (b .jobs) in
+      let h = entered-count T n (running T b) (b .ready) (accepted T t m) l (isFirst (before T) (accepted T t m) l) in
+      omega arith
+  moves-count b g (Terminate t) =
+      omega (arith, ends-count b g t, settled-count n (running T b) (b .ready) (without (running T b) (map (toldAt t) (b .jobs))))
+  moves-count b g (Chain t m) =
+      omega (arith, ends-count b g t, settled-count n (running T b) (b .ready) (insert (before T) (newJob Delayed (accepted T t m)) (without (running T b) (map (toldAt t) (b .jobs)))))
+
+  next-count : (b : Board) → Good T Other b → (e : Call)
+      → count n (starts ((answer T b e) .call)) + count n (b .ready) ≡ endedOf n (endedBy T b e) + count n ((next T b e) .ready)
+  next-count b g e = go (result T b e)
+    where
+      go : (k : ℕ) → count n (starts (unless k NoCall ((moves T (watched (tickOf e) b) e) .call))) + count n (b .ready)
+          ≡ endedOf n (unless k [] (endedAt (tickOf e) (ending T b e))) + count n ((unless k b (done T (watched (tickOf e) b) e)) .ready)
+      go zero = moves-count b g e
+      go (suc k) = refl
+
+  started-from : (b : Board) → Good T Other b → (es : List Call)
+      → count n (started T b es) + count n (b .ready) ≡ endedOf n (endings T b es) + count n ((run T b es) .ready)
+  started-from b g [] = omega arith
+  started-from b g (e ∷ es) =
+      let ih = started-from (next T b e) (next-good T Other (others T) b g e) es in
+      let h = next-count b g e in
+      omega (
+        arith,
+        count-append (eqb n) (starts ((answer T b e) .call)) (started T (next T b e) es),
+        count-append (λ (x : Ended). eqb n (x .job .task)) (endedBy T b e) (endings T (next T b e) es),
+      )
+
+pub started-once : StartedOnce
+started-once T calls n =
+    let g = fresh-good T Other (others T) calls in
+    let h = started-from T n fresh (fresh-good T Other (others T) []) calls in
+    let q : count n ((run T fresh calls) .ready) ≡ count n (releasedOf ((run T fresh calls) .jobs)) = ap (count n) (g .lined .queue) in
+    omega arith

@@ -1,0 +1,199 @@
+-- Late jobs: the mark is what the last accepted call's tick tells, and each accepted job is reported at most once. Assumes nothing.
+use Prim.Native.Nat.{ℕ, zero, suc, _+_, _-_, _<_, _≤_}
+use mathlib.Core.Path.{_≡_, refl, ap, sym, _∙_, subst⁻¹}
+use mathlib.Core.Bool.{Bool, true, false, cond, not, _&&_, _||_}
+use mathlib.Core.List.{List, [], _∷_, _++_, map}
+use mathlib.Core.Option.{Option}
+use lib.ListN.{length, replicate, length-map, length-append, length-replicate}
+use lib.Dec.{ltb, leb}
+use native.Mathlib.Omega.{arith}
+use borrow.Author.Tests.{ltb-true, ltb-false, lt-ltb, le-ltb, le-leb, lt-leb}
+use Rattle.rules.specs.declared.Tick.{Tick}
+use Rattle.rules.specs.declared.Phase.the-variants.{Delayed}
+use Rattle.rules.specs.declared.Call.{Call}
+use Rattle.rules.specs.declared.Call.the-variants.{Wait, Activate, Terminate, Chain}
+use Rattle.rules.specs.Words.{unless, countBy, only, All}
+use Rattle.rules.specs.Table.{Table, size, Passes, plus, deadlineOf}
+use Rattle.rules.specs.Jobs.{Job, Pending, accepted, bare, newJob, before}
+use Rattle.rules.specs.Calls.{tickOf}
+use Rattle.rules.specs.Late.{isPast, isLate, newlyLate, toldAt, fallsLate}
+use Rattle.rules.specs.Layer.{Board, fresh, next, done, watched, result, viewed, running, moved, tasks, inPlaces}
+use Rattle.rules.specs.Run.{run}
+use Rattle.rules.specs.Statement.{LateIsCheap, ReportedOnce, PlacesSuffice, makes, acceptedBy, acceptances, reportedBy, reports}
+use Rattle.rules.proofs.Lists.{all-over, count-append, count-map, count-only, count-split}
+use Rattle.rules.proofs.Moves.{count-without, staying, moved-all, moved-count}
+use Rattle.rules.proofs.Room.{room-for-all}
+use Rattle.rules.proofs.Allowed.{Known, known-of, time-of, allowed}
+
+-- ---- the late rule: all that the rest knows of it. A change of the rule is proved here, and nowhere else
+
+-- what was past stays past
+stays-past : (s t due : Tick) → s .0 ≤ t .0 → (isPast s due || isPast t due) ≡ isPast t due
+unfolding isPast
+stays-past s t due h = go (ltb (due .0) (s .0)) refl
+  where
+    go : (p : Bool) → ltb (due .0) (s .0) ≡ p → (p || ltb (due .0) (t .0)) ≡ ltb (due .0) (t .0)
+    go true e = let a = ltb-true (due .0) (s .0) e in sym (lt-ltb (due .0) (t .0) (omega arith))
+    go false e = refl
+
+-- an accepted job is not past at its own call
+not-past-yet : (T : Table) → Passes T → (t : Tick) (n : ℕ) → n < size T → false ≡ isPast t (plus t (deadlineOf T n))
+unfolding isPast
+not-past-yet T p t n known = sym (le-ltb ((plus t (deadlineOf T n)) .0) (t .0) (omega arith))
+
+-- past now and not at the last call: the cheap test
+falls-late : (s t due : Tick) → (isPast t due && not (isPast s due)) ≡ (leb (s .0) (due .0) && ltb (due .0) (t .0))
+unfolding isPast
+falls-late s t due = go (ltb (due .0) (s .0)) refl (ltb (due .0) (t .0))
+  where
+    go : (p : Bool) → ltb (due .0) (s .0) ≡ p → (q : Bool) → (q && not p) ≡ (leb (s .0) (due .0) && q)
+    go true e true = sym (ap (λ z. z && true) (lt-leb (s .0) (due .0) (ltb-true (due .0) (s .0) e)))
+    go true e false = sym (ap (λ z. z && false) (lt-leb (s .0) (due .0) (ltb-true (due .0) (s .0) e)))
+    go false e true = sym (ap (λ z. z && true) (le-leb (s .0) (due .0) (ltb-false (due .0) (s .0) e)))
+    go false e false = sym (ap (λ z. z && false) (le-leb (s .0) (due .0) (ltb-false (due .0) (s .0) e)))
+
+-- ---- the mark is what the last accepted call's tick tells
+
+pub record Told (now : Tick) (j : Job) : Type 0 where
+  pub mark : j .told ≡ isPast now (j .due)
+
+told-later : (s t : Tick) → s .0 ≤ t .0 → (j : Job) → Told s j → Told t (toldAt t j)
+told-later s t h j k = record { mark = ap (λ z. z || isPast t (j .due)) (k .mark) ∙ stays-past s t (j .due) h }
+
+told-new : (T : Table) → Passes T → (e : Call) → Known T e → All (λ (j : Pending). Told (tickOf e) (newJob Delayed j)) (makes (accepted T) e)
+told-new T p (Wait t) k = tt
+told-new T p (Activate t n) k = (record { mark = not-past-yet T p t n k }, tt)
+told-new T p (Terminate t) k = tt
+told-new T p (Chain t n) k = (record { mark = not-past-yet T p t n k }, tt)
+
+pub next-told : (T : Table) → Passes T → (b : Board) (e : Call) → All (Told (b .last)) (b .jobs) → All (Told ((next T b e) .last)) ((next T b e) .jobs)
+next-told T p b e h = go (result T b e) refl
+  where
+    go : (k : ℕ) → result T b e ≡ k → All (Told ((unless k b (done T (watched (tickOf e) b) e)) .last)) ((unless k b (done T (watched (tickOf e) b) e)) .jobs)
+    go zero z =
+        let a = allowed T (viewed T b) e z in
+        moved-all (Told (tickOf e)) (λ j k. record { mark = k .mark }) (before T) (accepted T) (running T b) (map (toldAt (tickOf e)) (b .jobs)) e
+        (told-new T p e (known-of T (viewed T b) e a))
+        (all-over (Told (b .last)) (Told (tickOf e)) (toldAt (tickOf e)) (told-later (b .last) (tickOf e) (time-of T (viewed T b) e a)) (b .jobs) h)
+    go (suc k) z = h
+
+run-told : (T : Table) → Passes T → (b : Board) → All (Told (b .last)) (b .jobs) → (es : List Call) → All (Told ((run T b es) .last)) ((run T b es) .jobs)
+run-told T p b h [] = h
+run-told T p b h (e ∷ es) = run-told T p (next T b e) (next-told T p b e h) es
+
+pub fresh-told : (T : Table) → Passes T → (calls : List Call) → All (Told ((run T fresh calls) .last)) ((run T fresh calls) .jobs)
+fresh-told T p calls = run-told T p fresh tt calls
+
+only-alike : (f g : Job → Bool) (l : List Job) → All (λ (j : Job). f j ≡ g j) l → only f l ≡ only g l
+only-alike f g [] h = refl
+only-alike f g (j ∷ l) h = λ i. cond (h .0 i) (j ∷ only-alike f g l (h .1) i) (only-alike f g l (h .1) i)
+
+pub late-cheap : (s t : Tick) (l : List Job) → All (Told s) l → newlyLate t l ≡ only (fallsLate s t) l
+late-cheap s t l h = only-alike (λ (j : Job). isLate t j && not (j .told)) (fallsLate s t) l (each l h)
+  where
+    each : (l : List Job) → All (Told s) l → All (λ (j : Job). (isLate t j && not (j .told)) ≡ fallsLate s t j) l
+    each [] h = tt
+    each (j ∷ l) h = (ap (λ z. isLate t j && not z) (h .0 .mark) ∙ falls-late s t (j .due), each l (h .1))
+
+pub late-is-cheap : LateIsCheap
+late-is-cheap T p calls t = late-cheap ((run T fresh calls) .last) t ((run T fresh calls) .jobs) (fresh-told T p calls)
+
+-- ---- each accepted job is reported at most once
+
+module _ (test : Pending → Bool) where
+  -- not told of yet
+  abbrev untold : Job → Bool
+  untold j = not (j .told) && test (bare j)
+
+  -- what is reported is told of from then on
+  reported-count : (t : Tick) (l : List Job) → countBy test (map bare (newlyLate t l)) + countBy untold (map (toldAt t) l) ≡ countBy untold l
+  reported-count t l =
+      omega (
+        arith,
+        count-map test bare (newlyLate t l),
+        count-only (λ (j : Job). test (bare j)) (λ (j : Job). isLate t j && not (j .told)) l,
+        count-map untold (toldAt t) l,
+        count-split (λ (j : Job). isLate t j && not (j .told) && test (bare j)) (λ (j : Job). untold (toldAt t j)) untold (λ j. each (isLate t j) (j .told) (test (bare j))) l,
+      )
+    where
+      each : (p q r : Bool) → cond (p && not q && r) 1 0 + cond (not (q || p) && r) 1 0 ≡ cond (not q && r) 1 0
+      each true true r = refl
+      each true false true = refl
+      each true false false = refl
+      each false true r = refl
+      each false false true = refl
+      each false false false = refl
+
+  -- those that stay are no more, and those that come were accepted
+  staying-count : (r : Option ℕ) (l : List Job) (e : Call) → countBy untold (staying r l e) ≤ countBy untold l
+  staying-count r l (Wait t) = omega arith
+  staying-count r l (Activate t n) = omega arith
+  staying-count r l (Terminate t) = count-without untold r l
+  staying-count r l (Chain t n) = count-without untold r l
+
+  coming-count : (T : Table) (e : Call) → countBy untold (map (newJob Delayed) (makes (accepted T) e)) ≡ countBy test (makes (accepted T) e)
+  coming-count T (Wait t) = refl
+  coming-count T (Activate t n) = refl
+  coming-count T (Terminate t) = refl
+  coming-count T (Chain t n) = refl
+
+  -- a call reports and leaves untold no more than were untold before it and it accepted
+  next-count : (T : Table) (b : Board) (e : Call)
+      → countBy test (reportedBy T b e) + countBy untold ((next T b e) .jobs) ≤ countBy test (acceptedBy T b e) + countBy untold (b .jobs)
+  next-count T b e = go (result T b e)
+    where
+      go : (k : ℕ) → countBy test (unless k [] (map bare (newlyLate (tickOf e) (b .jobs)))) + countBy untold ((unless k b (done T (watched (tickOf e) b) e)) .jobs)
+          ≤ countBy test (unless k [] (makes (accepted T) e)) + countBy untold (b .jobs)
+      go zero =
+          let l = map (toldAt (tickOf e)) (b .jobs) in
+          omega (
+            arith,
+            reported-count (tickOf e) (b .jobs),
+            moved-count untold (λ j. refl) (before T) (accepted T) (running T b) l e,
+            count-append untold (map (newJob Delayed) (makes (accepted T) e)) (staying (running T b) l e),
+            staying-count (running T b) l e,
+            coming-count T e,
+          )
+      go (suc k) = omega arith
+
+  reported-from : (T : Table) (b : Board) (es : List Call) → countBy test (reports T b es) ≤ countBy test (acceptances T b es) + countBy untold (b .jobs)
+  reported-from T b [] = omega arith
+  reported-from T b (e ∷ es) =
+      omega (
+        arith,
+        reported-from T (next T b e) es,
+        next-count T b e,
+        count-append test (reportedBy T b e) (reports T (next T b e) es),
+        count-append test (acceptedBy T b e) (acceptances T (next T b e) es),
+      )
+
+pub reported-once : ReportedOnce
+reported-once T calls test = let h = reported-from test T fresh calls in omega arith
+
+-- ---- 32 places suffice
+
+only-fewer : (f : Job → Bool) (l : List Job) → length (only f l) ≤ length l
+only-fewer f [] = omega arith
+only-fewer f (j ∷ l) = go (f j) (only-fewer f l)
+  where
+    go : (t : Bool) → length (only f l) ≤ length l → length (cond t (j ∷ only f l) (only f l)) ≤ suc (length l)
+    go true h = omega arith
+    go false h = omega arith
+
+places : (l : List ℕ) → length l ≤ 32 → length ((inPlaces l) .tasks) ≡ 32
+places l h = omega (arith, length-append l (replicate (32 - length l) 0), length-replicate {A = ℕ} (32 - length l) 0)
+
+pub places-suffice : PlacesSuffice
+places-suffice T p calls e = go (result T b e)
+  where
+    b : Board
+    b = run T fresh calls
+
+    late : List Job
+    late = newlyLate (tickOf e) (b .jobs)
+
+    go : (k : ℕ) → length ((inPlaces (unless k [] (tasks late))) .tasks) ≡ 32
+    go zero =
+        places (tasks late)
+        (omega (arith, length-map late (λ (j : Job). j .task), only-fewer (λ (j : Job). isLate (tickOf e) j && not (j .told)) (b .jobs), room-for-all T p calls))
+    go (suc k) = places [] (omega arith)

@@ -1,0 +1,102 @@
+-- Document 01, "The program and one whole run" and "Errors a builder could fall into": the printed run and cases a to l, as one statement. Assumes nothing.
+use Prim.Native.Nat.{ℕ}
+use mathlib.Core.Path.{_≡_}
+use mathlib.Core.Bool.{Bool, true, false}
+use mathlib.Core.List.{List, [], _∷_}
+use lib.ListN.{take}
+use Rattle.rules.specs.declared.Tick.{Tick}
+use Rattle.rules.specs.declared.Line.{Line}
+use Rattle.rules.specs.declared.Phase.{Phase}
+use Rattle.rules.specs.declared.Phase.the-variants.{Delayed, Released}
+use Rattle.rules.specs.declared.Call.{Call}
+use Rattle.rules.specs.declared.Call.the-variants.{Wait, Activate, Terminate, Chain}
+use Rattle.rules.specs.declared.KernelCall.{KernelCall}
+use Rattle.rules.specs.declared.KernelCall.the-variants.{NoCall, ActivateTask, ChainTask, TerminateTask}
+use Rattle.rules.specs.declared.Choice.{Choice}
+use Rattle.rules.specs.declared.Choice.the-variants.{Idle, Runs}
+use Rattle.rules.specs.declared.Answer.{Answer}
+use Rattle.rules.specs.declared.Tally.{Tally}
+use Rattle.rules.specs.declared.NumberRead.the-variants.{Refused}
+use Rattle.rules.specs.Number.{numberAt}
+use Rattle.rules.specs.Table.{Table, verdict, check}
+use Rattle.rules.specs.Jobs.{Job}
+use Rattle.rules.specs.Layer.{fresh, result, choice, answer, inPlaces}
+use Rattle.rules.specs.Plain.{start, plainRun, plainChoice}
+use Rattle.rules.specs.Run.{run, answers, freshHead, headRun}
+
+abbrev pub line : ℕ → ℕ → ℕ → Line
+line d p l = record { deadline = record { 0 = d }; priority = p; limit = l }
+
+abbrev pub table : List Line → Table
+table ls = record { lines = ls }
+
+abbrev pub at : ℕ → Tick
+at t = record { 0 = t }
+
+-- a job of task n, activated at t, due at d
+abbrev pub job : ℕ → ℕ → ℕ → Phase → Job
+job n t d s = record { task = n; since = at t; due = at d; phase = s; told = false }
+
+abbrev pub says : ℕ → Choice → KernelCall → List ℕ → Answer
+says r c k l = record { result = r; running = c; call = k; late = inPlaces l }
+
+abbrev pub tally : ℕ → ℕ → ℕ → Tally
+tally l e r = record { late = l; ended = e; response = r }
+
+abbrev pub tableP : Table
+tableP = table (line 3 12 2 ∷ line 5 11 2 ∷ line 5 10 2 ∷ [])
+
+abbrev pub tableE : Table
+tableE = table (line 3 1 1 ∷ line 5 2 1 ∷ [])
+
+abbrev pub upToTick3 : List Call
+upToTick3 = Activate (at 0) 0 ∷ Activate (at 0) 2 ∷ Activate (at 0) 1 ∷ Terminate (at 1) ∷ Activate (at 3) 0 ∷ []
+
+abbrev pub printed : List Call
+printed =
+    Activate (at 0) 0 ∷ Activate (at 0) 2 ∷ Activate (at 0) 1 ∷ Terminate (at 1) ∷ Activate (at 3) 0 ∷ Terminate (at 3)
+    ∷ Terminate (at 4) ∷ Wait (at 7) ∷ Terminate (at 8) ∷ []
+
+abbrev pub twoOfTask0 : List Call
+twoOfTask0 = Activate (at 0) 0 ∷ Activate (at 0) 0 ∷ []
+
+pub record Cases : Type 0 where
+  pub printed-run :
+      answers tableP fresh printed
+      ≡ says 0 (Runs 0 (at 3)) (ActivateTask 0) []
+      ∷ says 0 (Runs 0 (at 3)) NoCall []
+      ∷ says 0 (Runs 0 (at 3)) NoCall []
+      ∷ says 0 (Runs 2 (at 5)) (ChainTask 2) []
+      ∷ says 0 (Runs 2 (at 5)) NoCall []
+      ∷ says 0 (Runs 1 (at 5)) (ChainTask 1) []
+      ∷ says 0 (Runs 0 (at 6)) (ChainTask 0) []
+      ∷ says 0 (Runs 0 (at 6)) NoCall (0 ∷ [])
+      ∷ says 0 Idle TerminateTask []
+      ∷ []
+  pub printed-counts : take 3 ((headRun tableP freshHead printed) .tallies) ≡ tally 1 2 5 ∷ tally 0 1 4 ∷ tally 0 1 3 ∷ []
+  pub a-stays-delayed :
+      (run tableP fresh upToTick3) .jobs ≡ job 2 0 5 Released ∷ job 1 0 5 Delayed ∷ job 0 3 6 Delayed ∷ []
+  pub a-runs-on : choice tableP (run tableP fresh upToTick3) ≡ Runs 2 (at 5)
+  pub b-no-second-start :
+      answers tableP fresh (Activate (at 0) 1 ∷ Activate (at 1) 0 ∷ Terminate (at 2) ∷ [])
+      ≡ says 0 (Runs 1 (at 5)) (ActivateTask 1) [] ∷ says 0 (Runs 0 (at 4)) (ActivateTask 0) [] ∷ says 0 (Runs 1 (at 5)) TerminateTask [] ∷ []
+  pub c-behind-its-equal : (run tableP fresh twoOfTask0) .jobs ≡ job 0 0 3 Released ∷ job 0 0 3 Delayed ∷ []
+  pub d-own-deadlines :
+      answers (table (line 10 9 1 ∷ line 12 8 1 ∷ [])) fresh (Activate (at 21) 0 ∷ Activate (at 22) 1 ∷ [])
+      ≡ says 0 (Runs 0 (at 31)) (ActivateTask 0) [] ∷ says 0 (Runs 0 (at 31)) NoCall [] ∷ []
+  pub d-second-due : (run (table (line 10 9 1 ∷ line 12 8 1 ∷ [])) fresh (Activate (at 21) 0 ∷ Activate (at 22) 1 ∷ [])) .jobs ≡ job 0 21 31 Released ∷ job 1 22 34 Delayed ∷ []
+  pub e-refused : check tableE ≡ verdict 5 (0 ∷ 1 ∷ [])
+  pub e-kernel : choice tableE (run tableE fresh (Activate (at 0) 1 ∷ Activate (at 0) 0 ∷ [])) ≡ Runs 1 (at 5)
+  pub e-plain : plainChoice tableE ((plainRun tableE start (Activate (at 0) 1 ∷ Activate (at 0) 0 ∷ [])) .pending) ≡ Runs 0 (at 3)
+  pub f-refused : check (table (line 3 2 1 ∷ line 5 2 1 ∷ [])) ≡ verdict 5 (0 ∷ 1 ∷ [])
+  pub g-accepted : check (table (line 5 2 1 ∷ line 5 2 1 ∷ [])) ≡ verdict 0 []
+  pub h-chain : result tableP (run tableP fresh twoOfTask0) (Chain (at 0) 0) ≡ 0
+  pub h-activate : result tableP (run tableP fresh twoOfTask0) (Activate (at 0) 0) ≡ 4
+  pub i-nothing-runs : result tableP fresh (Terminate (at 0)) ≡ 2
+  pub i-goes-back : result tableP (run tableP fresh (Wait (at 5) ∷ [])) (Terminate (at 4)) ≡ 8
+  pub j-on-time : answer tableP (run tableP fresh (Activate (at 3) 0 ∷ [])) (Terminate (at 6)) ≡ says 0 Idle TerminateTask []
+  pub j-late : answer tableP (run tableP fresh (Activate (at 3) 0 ∷ [])) (Terminate (at 7)) ≡ says 0 Idle TerminateTask (0 ∷ [])
+  pub k-not-shortest : numberAt (0x80 ∷ 0x00 ∷ []) 0 ≡ Refused 21
+  pub k-cut-off : numberAt (0x80 ∷ []) 0 ≡ Refused 20
+  pub l-fits : check (table (line 3 2 16 ∷ line 5 1 16 ∷ [])) ≡ verdict 0 []
+  pub l-too-many : check (table (line 3 2 16 ∷ line 5 1 17 ∷ [])) ≡ verdict 4 []

@@ -1,0 +1,52 @@
+-- Document 01, "Ticks and jobs": a job, and the order of the list. Assumes nothing.
+use Prim.Native.Nat.{ℕ, _<_}
+use mathlib.Core.Bool.{Bool, true, false}
+use lib.Dec.{ltb}
+use Rattle.rules.specs.declared.Tick.{Tick}
+use Rattle.rules.specs.declared.Phase.{Phase}
+use Rattle.rules.specs.declared.Phase.the-variants.{Delayed, Released}
+use Rattle.rules.specs.Table.{Table, plus, deadlineOf}
+
+-- what every scheduler knows of a pending job: its task, when it was activated, and when it is due
+pub record Pending : Type 0 where
+  pub task : ℕ
+  pub since : Tick
+  pub due : Tick
+
+-- an accepted activation of task n at tick t: due at t + D
+abbrev pub accepted : Table → Tick → ℕ → Pending
+accepted T t n = record { task = n; since = t; due = plus t (deadlineOf T n) }
+
+-- a pending job of the layer's list also records whether it is delayed or released, and whether it was told of as late
+pub record Job : Type 0 where
+  pub task : ℕ
+  pub since : Tick
+  pub due : Tick
+  pub phase : Phase
+  pub told : Bool
+
+abbrev pub bare : Job → Pending
+bare j = record { task = j .task; since = j .since; due = j .due }
+
+-- a job new in the list
+abbrev pub newJob : Phase → Pending → Job
+newJob s j = record { task = j .task; since = j .since; due = j .due; phase = s; told = false }
+
+-- the same job, released
+abbrev pub released : Job → Job
+released j = record { task = j .task; since = j .since; due = j .due; phase = Released; told = j .told }
+
+-- what orders a job: its deadline
+unfoldable pub keyAt : Table → Tick → ℕ
+keyAt T due = due .0
+
+abbrev pub key : Table → Pending → ℕ
+key T j = keyAt T (j .due)
+
+-- j goes before k: the one order of the list and of the plain scheduler. Where neither goes before the other, the first accepted does
+abbrev pub Before : Table → Pending → Pending → Type 0
+Before T j k = key T j < key T k
+
+-- its test
+unfoldable pub before : Table → Pending → Pending → Bool
+before T j k = ltb (key T j) (key T k)

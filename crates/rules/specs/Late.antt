@@ -1,0 +1,27 @@
+-- Document 01, "What a call returns": late jobs. Assumes nothing.
+use Prim.Native.Nat.{ℕ}
+use mathlib.Core.Bool.{Bool, true, false, not, _&&_, _||_}
+use mathlib.Core.List.{List}
+use lib.Dec.{ltb, leb}
+use Rattle.rules.specs.declared.Tick.{Tick}
+use Rattle.rules.specs.Words.{only}
+use Rattle.rules.specs.Jobs.{Job}
+
+-- a job is late when it is pending at the start of an accepted call whose tick is greater than its deadline
+unfoldable pub isPast : Tick → Tick → Bool
+isPast t due = ltb (due .0) (t .0)
+
+abbrev pub isLate : Tick → Job → Bool
+isLate t j = isPast t (j .due)
+
+-- it is reported once, at the first such call: late, and not told of before
+abbrev pub newlyLate : Tick → List Job → List Job
+newlyLate t l = only (λ (j : Job). isLate t j && not (j .told)) l
+
+-- from that call on it is told of
+abbrev pub toldAt : Tick → Job → Job
+toldAt t j = record { task = j .task; since = j .since; due = j .due; phase = j .phase; told = j .told || isLate t j }
+
+-- the same without a mark, from the last accepted call's tick
+abbrev pub fallsLate : Tick → Tick → Job → Bool
+fallsLate last t j = leb (last .0) (j .due .0) && ltb (j .due .0) (t .0)

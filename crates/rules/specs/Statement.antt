@@ -1,0 +1,349 @@
+-- What is claimed of the rules. Each claim is a type; specs/Claims.antt gathers them. Assumes nothing.
+use Prim.Native.Nat.{ℕ, _+_, _<_, _≤_, min, max}
+use mathlib.Core.Path.{_≡_}
+use mathlib.Core.Logic.{_↔_, _⊎_}
+use mathlib.Core.Bool.{Bool, cond}
+use mathlib.Core.List.{List, [], _∷_, _++_, map}
+use mathlib.Core.Option.{Option, some, none}
+use lib.ListN.{length, getD}
+use lib.Dec.{eqb}
+use Rattle.rules.specs.declared.Tick.{Tick}
+use Rattle.rules.specs.declared.Line.{Line}
+use Rattle.rules.specs.declared.Phase.{Phase}
+use Rattle.rules.specs.declared.Phase.the-variants.{Delayed, Released}
+use Rattle.rules.specs.declared.Call.{Call}
+use Rattle.rules.specs.declared.Call.the-variants.{Wait, Activate, Terminate, Chain}
+use Rattle.rules.specs.declared.KernelCall.{KernelCall}
+use Rattle.rules.specs.declared.KernelCall.the-variants.{NoCall, ActivateTask, ChainTask, TerminateTask}
+use Rattle.rules.specs.declared.Choice.{Choice}
+use Rattle.rules.specs.declared.Choice.the-variants.{Idle, Runs}
+use Rattle.rules.specs.declared.Tally.{Tally}
+use Rattle.rules.specs.Words.{unless, Within, countBy, count, only, All, Pairs}
+use Rattle.rules.specs.Table.{Table, size, lineOf, deadlineOf, priorityOf, limitOf, limits, greatest, plus, DeadlineInRange, LimitInRange, InRange, Passes, Keeps, Verdict, verdict, check}
+use Rattle.rules.specs.Jobs.{Job, Pending, accepted, bare, Before, before}
+use Rattle.rules.specs.Kernel.{dispatched, higher}
+use Rattle.rules.specs.Calls.{View, refusal, tickOf}
+use Rattle.rules.specs.Late.{newlyLate, fallsLate}
+use Rattle.rules.specs.Layer.{Board, insert, fresh, next, result, choice, answer, inPlaces, lateTasks}
+use Rattle.rules.specs.Counts.{noTally, most, ending, responseOf}
+use Rattle.rules.specs.Plain.{Plain, start, plainRun, plainChoice, plainResult, earliest, rest}
+use Rattle.rules.specs.Run.{run, Head, freshHead, headNext, headRun}
+
+-- ==== demand 3
+
+-- the kernel and the plain scheduler side by side: the same job runs, none exactly when nothing is pending, and both give every next call the same result
+pub record Agree (T : Table) (b : Board) (p : Plain) : Type 0 where
+  pub same : choice T b ≡ plainChoice T (p .pending)
+  pub idle : (choice T b ≡ Idle) ↔ (b .jobs ≡ [])
+  pub results : (e : Call) → result T b e ≡ plainResult T p e
+
+-- on a table that passes checks 1 to 4 and keeps the rule: after each call of any sequence from a fresh start, refused calls included
+abbrev pub Demand3 : Type 0
+Demand3 = (T : Table) → Keeps T → (calls : List Call) → Agree T (run T fresh calls) (plainRun T start calls)
+
+-- tasks i and j of a table that passes checks 1 to 4 break the rule, i being the shorter
+pub record Broken (T : Table) (i j : ℕ) : Type 0 where
+  pub passes : Passes T
+  pub short : i < size T
+  pub long : j < size T
+  pub shorter : (deadlineOf T i) .0 < (deadlineOf T j) .0
+  pub not-higher : priorityOf T i ≤ priorityOf T j
+
+-- the longer task and then the shorter, both at tick 0
+abbrev pub partAt : Table → ℕ → ℕ → Tick
+partAt T i j = record { 0 = 0 }
+
+abbrev pub parting : Table → ℕ → ℕ → List Call
+parting T i j = Activate (partAt T i j) j ∷ Activate (partAt T i j) i ∷ []
+
+-- make the two part: the kernel runs the longer, the plain scheduler the shorter
+pub record Part (T : Table) (i j : ℕ) : Type 0 where
+  pub kernel : choice T (run T fresh (parting T i j)) ≡ Runs j (plus (partAt T i j) (deadlineOf T j))
+  pub plain : plainChoice T ((plainRun T start (parting T i j)) .pending) ≡ Runs i (plus (partAt T i j) (deadlineOf T i))
+  pub apart : choice T (run T fresh (parting T i j)) ≡ plainChoice T ((plainRun T start (parting T i j)) .pending) → ⊥
+
+-- whichever pair breaks the rule; and the check refuses such a table with 5
+abbrev pub Demand3-broken : Type 0
+Demand3-broken = (T : Table) (i j : ℕ) → Broken T i j → Part T i j × ((check T) .number ≡ 5)
+
+-- ==== the two schedulers are what their names say
+
+-- e runs of the pending jobs p, the last accepted first, and r are the others: none is due earlier, and those accepted before e are due later
+pub record Edf (p : List Pending) (e : Pending) (r : List Pending) : Type 0 where
+  pub newer : List Pending
+  pub older : List Pending
+  pub among : p ≡ newer ++ (e ∷ older)
+  pub others : r ≡ newer ++ older
+  pub earliest : All (λ (j : Pending). e .due .0 ≤ j .due .0) newer
+  pub first : All (λ (j : Pending). e .due .0 < j .due .0) older
+
+abbrev pub PlainIsEdf : Type 0
+PlainIsEdf = (T : Table) (j : Pending) (p : List Pending) → Edf (j ∷ p) (earliest T j p) (rest T j p)
+
+-- n runs of the ready queue q: it is higher than all that were released before it, and no later one is higher
+pub record Highest (level : ℕ → ℕ) (q : List ℕ) (n : ℕ) : Type 0 where
+  pub sooner : List ℕ
+  pub later : List ℕ
+  pub among : q ≡ sooner ++ (n ∷ later)
+  pub first : All (λ m. level m < level n) sooner
+  pub highest : All (λ m. level m ≤ level n) later
+
+abbrev pub KernelIsPriority : Type 0
+KernelIsPriority = (level : ℕ → ℕ) (n : ℕ) (q : List ℕ) → Highest level (n ∷ q) (higher level n (dispatched level q))
+
+-- ==== the check
+
+-- two lines break the rule, one way or the other
+abbrev pub Breaks : Table → ℕ → ℕ → Type 0
+Breaks T i j = ((deadlineOf T i) .0 < (deadlineOf T j) .0) × (priorityOf T i ≤ priorityOf T j)
+
+abbrev pub Clash : Table → ℕ → ℕ → Type 0
+Clash T i j = Breaks T i j ⊎ Breaks T j i
+
+-- the pair m, n comes before the pair i, j: lowest first line, then lowest second
+abbrev pub Sooner : ℕ → ℕ → ℕ → ℕ → Type 0
+Sooner m n i j = (m < i) ⊎ ((m ≡ i) × (n < j))
+
+-- the lines before i are in range, and i is a line
+pub record UpTo (T : Table) (i : ℕ) : Type 0 where
+  pub counted : Within 1 32 (size T)
+  pub before : (n : ℕ) → n < i → InRange (lineOf T n)
+  pub line : i < size T
+
+-- i and j are the first pair that breaks the rule, the first below the second
+pub record FirstClash (T : Table) (i j : ℕ) : Type 0 where
+  pub below : i < j
+  pub line : j < size T
+  pub clash : Clash T i j
+  pub none-sooner : (m n : ℕ) → m < n → n < size T → Sooner m n i j → Clash T m n → ⊥
+
+-- number and lines named: given exactly when
+pub data Found (T : Table) : Verdict → Type 0 where
+  row-1 : (Within 1 32 (size T) → ⊥) → Found T (verdict 1 [])
+  row-2 : (i : ℕ) → UpTo T i → (DeadlineInRange (lineOf T i) → ⊥) → Found T (verdict 2 (i ∷ []))
+  row-3 : (i : ℕ) → UpTo T i → DeadlineInRange (lineOf T i) → (LimitInRange (lineOf T i) → ⊥) → Found T (verdict 3 (i ∷ []))
+  row-4 : Within 1 32 (size T) → ((n : ℕ) → n < size T → InRange (lineOf T n)) → 32 < limits (T .lines) → Found T (verdict 4 [])
+  row-5 : (i j : ℕ) → Passes T → FirstClash T i j → Found T (verdict 5 (i ∷ j ∷ []))
+  row-0 : Keeps T → Found T (verdict 0 [])
+
+abbrev pub CheckExact : Type 0
+CheckExact = (T : Table) (v : Verdict) → (check T ≡ v) ↔ (Found T v)
+
+-- ==== the refusals of calls
+
+infix 90 _when_
+-- a row of the document's table
+pub record Row : Type 1 where
+  pub number : ℕ
+  pub condition : Type 0
+
+abbrev pub _when_ : ℕ → Type 0 → Row
+_when_ k c = record { number = k; condition = c }
+
+abbrev pub BadTick : Tick → Tick → Type 0
+BadTick last t = (t .0 < last .0) ⊎ (greatest .0 < t .0)
+
+abbrev pub NothingRuns : View → Type 0
+NothingRuns v = v .runs ≡ none
+
+abbrev pub NoLine : Table → ℕ → Type 0
+NoLine T n = size T ≤ n
+
+abbrev pub AtLimit : Table → ℕ → List ℕ → Type 0
+AtLimit T n l = limitOf T n ≤ count n l
+
+abbrev pub NoRoom : List ℕ → Type 0
+NoRoom l = 32 ≤ length l
+
+abbrev pub OutOfReach : Table → Tick → ℕ → Type 0
+OutOfReach T t n = greatest .0 < (plus t (deadlineOf T n)) .0
+
+-- the rows of each kind of call, in their order
+abbrev pub rows : Table → View → Call → List Row
+rows T v (Wait t) = 8 when BadTick (v .last) t ∷ []
+rows T v (Activate t n) =
+    8 when BadTick (v .last) t
+    ∷ 3 when NoLine T n
+    ∷ 4 when AtLimit T n (v .pending)
+    ∷ 10 when NoRoom (v .pending)
+    ∷ 9 when OutOfReach T t n
+    ∷ []
+rows T v (Terminate t) = 8 when BadTick (v .last) t ∷ 2 when NothingRuns v ∷ []
+rows T v (Chain t n) =
+    8 when BadTick (v .last) t
+    ∷ 2 when NothingRuns v
+    ∷ 3 when NoLine T n
+    ∷ 4 when AtLimit T n (v .others)
+    ∷ 9 when OutOfReach T t n
+    ∷ []
+
+-- each row's number is given exactly when no earlier row applies and its condition holds; 0 exactly when none applies
+abbrev pub Exact : List Row → Type 0 → ℕ → Type 0
+Exact [] none-yet k = (k ≡ 0) ↔ none-yet
+Exact (r ∷ rs) none-yet k = ((k ≡ r .number) ↔ (none-yet × r .condition)) × Exact rs (none-yet × (r .condition → ⊥)) k
+
+abbrev pub RefusalsExact : Type 0
+RefusalsExact = (T : Table) (v : View) (e : Call) → Exact (rows T v e) (Unit {0}) (refusal T v e)
+
+-- a refused call changes nothing, and reports the unchanged running job, no kernel call and no late job
+pub record Unchanged (T : Table) (h : Head) (e : Call) : Type 0 where
+  pub state : headNext T h e ≡ h
+  pub returns : answer T (h .board) e ≡ record { result = result T (h .board) e; running = choice T (h .board); call = NoCall; late = inPlaces [] }
+
+abbrev pub RefusedUnchanged : Type 0
+RefusedUnchanged = (T : Table) (h : Head) (e : Call) → (result T (h .board) e ≡ 0 → ⊥) → Unchanged T h e
+
+-- 10 never arises from a table that passes checks 1 to 4
+abbrev pub NoTen : Type 0
+NoTen = (T : Table) → Passes T → (calls : List Call) (e : Call) → result T (run T fresh calls) e ≡ 10 → ⊥
+
+-- ==== the list and its releases, on any table
+
+-- the tasks of the released jobs, the last of the list first
+abbrev pub pushed : Phase → ℕ → List ℕ → List ℕ
+pushed Delayed n q = q
+pushed Released n q = q ++ (n ∷ [])
+
+abbrev pub releasedOf : List Job → List ℕ
+releasedOf [] = []
+releasedOf (j ∷ l) = pushed (j .phase) (j .task) (releasedOf l)
+
+abbrev pub FirstReleased : List Job → Type 0
+FirstReleased [] = Unit {0}
+FirstReleased (j ∷ l) = j .phase ≡ Released
+
+-- the list is in order; its first job is released; the ready queue is the released jobs from back to front; of a task at most one is released
+pub record Listed (T : Table) (b : Board) : Type 0 where
+  pub ordered : Pairs (λ (j k : Job). Before T (bare k) (bare j) → ⊥) (b .jobs)
+  pub first : FirstReleased (b .jobs)
+  pub queue : b .ready ≡ releasedOf (b .jobs)
+  pub one-each : Pairs (λ (j k : Job). j .phase ≡ Released → k .phase ≡ Released → j .task ≡ k .task → ⊥) (b .jobs)
+
+abbrev pub ListHolds : Type 0
+ListHolds = (T : Table) (calls : List Call) → Listed T (run T fresh calls)
+
+-- m is the list l with a new job j: behind all those that it does not go before, in front of all others
+pub record Inserted (T : Table) (j : Job) (l m : List Job) : Type 0 where
+  pub front : List Job
+  pub back : List Job
+  pub was : l ≡ front ++ back
+  pub is : m ≡ front ++ (j ∷ back)
+  pub behind : All (λ (k : Job). Before T (bare j) (bare k) → ⊥) front
+  pub ahead : All (λ (k : Job). Before T (bare j) (bare k)) back
+
+abbrev pub InsertsBehind : Type 0
+InsertsBehind = (T : Table) (calls : List Call) (j : Job) → Inserted T j ((run T fresh calls) .jobs) (insert (before T) j ((run T fresh calls) .jobs))
+
+-- the tasks that the kernel calls of a sequence started
+abbrev pub starts : KernelCall → List ℕ
+starts NoCall = []
+starts (ActivateTask n) = n ∷ []
+starts (ChainTask n) = n ∷ []
+starts TerminateTask = []
+
+abbrev pub started : Table → Board → List Call → List ℕ
+started T b [] = []
+started T b (e ∷ es) = starts ((answer T b e) .call) ++ started T (next T b e) es
+
+-- the jobs that its accepted calls ended, each with the tick
+pub record Ended : Type 0 where
+  pub job : Pending
+  pub tick : Tick
+
+abbrev pub endedAt : Tick → Option Job → List Ended
+endedAt t none = []
+endedAt t (some j) = record { job = bare j; tick = t } ∷ []
+
+abbrev pub endedBy : Table → Board → Call → List Ended
+endedBy T b e = unless (result T b e) [] (endedAt (tickOf e) (ending T b e))
+
+abbrev pub endings : Table → Board → List Call → List Ended
+endings T b [] = []
+endings T b (e ∷ es) = endedBy T b e ++ endings T (next T b e) es
+
+-- how many of task n
+abbrev pub endedOf : ℕ → List Ended → ℕ
+endedOf n l = countBy (λ (x : Ended). eqb n (x .job .task)) l
+
+-- a job is released by exactly one kernel call: of each task as many were started as ended and are released now. Nothing starts twice, nothing released vanishes
+abbrev pub StartedOnce : Type 0
+StartedOnce =
+    (T : Table) (calls : List Call) (n : ℕ)
+    → count n (started T fresh calls) ≡ endedOf n (endings T fresh calls) + count n (releasedOf ((run T fresh calls) .jobs))
+
+-- the jobs that its accepted calls made
+abbrev pub makes : (Tick → ℕ → Pending) → Call → List Pending
+makes new (Wait t) = []
+makes new (Activate t n) = new t n ∷ []
+makes new (Terminate t) = []
+makes new (Chain t n) = new t n ∷ []
+
+abbrev pub acceptedBy : Table → Board → Call → List Pending
+acceptedBy T b e = unless (result T b e) [] (makes (accepted T) e)
+
+abbrev pub acceptances : Table → Board → List Call → List Pending
+acceptances T b [] = []
+acceptances T b (e ∷ es) = acceptedBy T b e ++ acceptances T (next T b e) es
+
+-- a call may be refused by number, it may not vanish: of the jobs that pass any test, as many were accepted as ended and are pending now
+abbrev pub NothingVanishes : Type 0
+NothingVanishes =
+    (T : Table) (calls : List Call) (test : Pending → Bool)
+    → countBy test (acceptances T fresh calls)
+    ≡ countBy (λ (x : Ended). test (x .job)) (endings T fresh calls) + countBy test (map bare ((run T fresh calls) .jobs))
+
+-- two released jobs never share a priority, on a table that passes checks 1 to 4 and keeps the rule
+abbrev pub ApartPriorities : Type 0
+ApartPriorities =
+    (T : Table) → Keeps T → (calls : List Call)
+    → Pairs (λ (j k : Job). j .phase ≡ Released → k .phase ≡ Released → priorityOf T (j .task) ≡ priorityOf T (k .task) → ⊥)
+    ((run T fresh calls) .jobs)
+
+-- ==== late jobs and counts
+
+-- the mark need not be kept: newly late are those whose deadline was not past at the last accepted call and is past at this one
+abbrev pub LateIsCheap : Type 0
+LateIsCheap =
+    (T : Table) → Passes T → (calls : List Call) (t : Tick)
+    → newlyLate t ((run T fresh calls) .jobs) ≡ only (fallsLate ((run T fresh calls) .last) t) ((run T fresh calls) .jobs)
+
+-- the jobs that a sequence reported as late
+abbrev pub reportedBy : Table → Board → Call → List Pending
+reportedBy T b e = unless (result T b e) [] (map bare (newlyLate (tickOf e) (b .jobs)))
+
+abbrev pub reports : Table → Board → List Call → List Pending
+reports T b [] = []
+reports T b (e ∷ es) = reportedBy T b e ++ reports T (next T b e) es
+
+-- each accepted job is reported at most once: of the jobs that pass any test, no more were reported than accepted
+abbrev pub ReportedOnce : Type 0
+ReportedOnce =
+    (T : Table) (calls : List Call) (test : Pending → Bool)
+    → countBy test (reports T fresh calls) ≤ countBy test (acceptances T fresh calls)
+
+-- the 32 places of an answer hold all newly late tasks
+abbrev pub PlacesSuffice : Type 0
+PlacesSuffice = (T : Table) → Passes T → (calls : List Call) (e : Call) → length ((answer T (run T fresh calls) e) .late .tasks) ≡ 32
+
+-- all late tasks that a sequence's answers reported
+abbrev pub lates : Table → Board → List Call → List ℕ
+lates T b [] = []
+lates T b (e ∷ es) = lateTasks T b e ++ lates T (next T b e) es
+
+-- the greatest response of task n
+abbrev pub greatestOf : ℕ → List Ended → ℕ
+greatestOf n [] = 0
+greatestOf n (x ∷ l) = cond (eqb n (x .job .task)) (max (responseOf (x .tick) (x .job)) (greatestOf n l)) (greatestOf n l)
+
+-- what the accepted calls of a sequence add up to, for task n
+abbrev pub addedUp : Table → List Call → ℕ → Tally
+addedUp T calls n =
+    record {
+      late = min (count n (lates T fresh calls)) most;
+      ended = min (endedOf n (endings T fresh calls)) most;
+      response = greatestOf n (endings T fresh calls);
+    }
+
+-- the counts follow from the accepted calls
+abbrev pub CountsAddUp : Type 0
+CountsAddUp = (T : Table) (calls : List Call) (n : ℕ) → n < 32 → getD ((headRun T freshHead calls) .tallies) n noTally ≡ addedUp T calls n

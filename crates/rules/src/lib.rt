@@ -1,0 +1,82 @@
+ghost use Rattle.rules.specs.Claims.{Claims};
+// The data that document 01 speaks of. What it says of them stands in specs/.
+
+// A position in time.
+pub struct Tick(pub u64);
+
+// A length of time. It is only ever added to a tick, never compared with one.
+pub struct Span(pub u64);
+
+// A line of the task table. Its place from 0 is its task number.
+pub struct Line {
+    pub deadline: Span,
+    pub priority: u8,
+    pub limit: u8,
+}
+
+// Whether the layer holds a pending job back, or the kernel has it.
+pub enum Phase {
+    Delayed,
+    Released,
+}
+
+// A pending job as a list keeps it. It was activated its relative deadline before it is due.
+pub struct Job {
+    pub task: u8,
+    pub due: Tick,
+    pub phase: Phase,
+}
+
+// A call: time moves (tick), activate, terminate, chain.
+pub enum Call {
+    Wait(Tick),
+    Activate(Tick, u8),
+    Terminate(Tick),
+    Chain(Tick, u8),
+}
+
+// The kernel call that a call made.
+pub enum KernelCall {
+    NoCall,
+    ActivateTask(u8),
+    ChainTask(u8),
+    TerminateTask,
+}
+
+// What runs: nothing, or a job by its task and deadline.
+pub enum Choice {
+    Idle,
+    Runs(u8, Tick),
+}
+
+// Newly late jobs: their count, and their tasks in 32 places, unused places 0.
+pub struct Late {
+    pub count: u8,
+    pub tasks: [u8; 32],
+}
+
+// What a call returns.
+pub struct Answer {
+    pub result: u8,
+    pub running: Choice,
+    pub call: KernelCall,
+    pub late: Late,
+}
+
+// What is counted of a task: late jobs, ended jobs, and the greatest response.
+pub struct Tally {
+    pub late: u32,
+    pub ended: u32,
+    pub response: u64,
+}
+
+// What reading a number on tape gives: its value and the place after it, or the refusal's number.
+pub enum NumberRead {
+    Value { value: u64, next: usize },
+    Refused(u8),
+}
+
+// Does nothing: its contract is where a check holds the crate to its claims.
+pub fn rules_hold()
+    ensures { λ r. ⌜ Claims ⌝ }
+{}
