@@ -3,7 +3,6 @@ use Prim.Native.Nat.{ℕ, _<_, _≤_}
 use mathlib.Core.Path.{_≡_}
 use mathlib.Core.Logic.{inl, inr}
 use mathlib.Core.List.{List}
-use mathlib.Core.Option.{none}
 use lib.ListN.{length}
 use native.Mathlib.Omega.{arith}
 use Rattle.rules.specs.declared.Tick.{Tick}
@@ -12,7 +11,7 @@ use Rattle.rules.specs.declared.Call.the-variants.{Wait, Activate, Termi
 use Rattle.rules.specs.Words.{count}
 use Rattle.rules.specs.Table.{Table, size, limitOf, deadlineOf, plus, greatest}
 use Rattle.rules.specs.Calls.{View, refusal, tickOf}
-use Rattle.rules.specs.Statement.{BadTick, rows, NoLine, AtLimit, NoRoom, OutOfReach, NothingRuns}
+use Rattle.rules.specs.Statement.{BadTick, rows, NoLine, AtLimit, OutOfReach, NothingRuns}
 use Rattle.rules.proofs.Refusals.{refusals-exact, None, at-zero}
 
 pub record InTime (last t : Tick) : Type 0 where

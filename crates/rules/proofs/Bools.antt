@@ -1,11 +1,10 @@
 -- What tests tell. Assumes nothing.
-use Prim.Native.Nat.{ℕ, _<_, _≤_}
+use Prim.Native.Nat.{ℕ}
 use mathlib.Core.Path.{_≡_, refl, sym, _∙_}
 use mathlib.Core.Logic.{_↔_, _⊎_, inl, inr}
-use mathlib.Core.Bool.{Bool, true, false, not, _&&_, _||_, true≢false}
-use lib.Dec.{ltb, leb}
-use native.Mathlib.Omega.{arith}
-use borrow.Author.Tests.{ltb-true, ltb-false, leb-true, leb-false, le-leb}
+use mathlib.Core.Bool.{Bool, true, false, _&&_, _||_, true≢false}
+use lib.Dec.{leb}
+use borrow.Author.Tests.{leb-true, le-leb}
 use Rattle.rules.specs.Words.{Within, within}
 
 pub absurd-bool {ℓ} : {A : Type ℓ} → true ≡ false → A

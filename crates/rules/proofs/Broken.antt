@@ -1,14 +1,14 @@
 -- Demand 3, a broken pair: the longer task and then the shorter part the kernel from the plain scheduler. Assumes nothing.
-use Prim.Native.Nat.{ℕ, zero, suc, _+_, _<_, _≤_}
+use Prim.Native.Nat.{ℕ, _≤_}
 use mathlib.Core.Path.{_≡_, refl, ap, sym, _∙_}
-use mathlib.Core.Bool.{Bool, true, false, cond}
-use mathlib.Core.List.{List, [], _∷_}
+use mathlib.Core.Bool.{true}
+use mathlib.Core.List.{[], _∷_}
 use native.Mathlib.Omega.{arith}
 use borrow.Author.Tests.{le-ltb, eq-eqb, ne-eqb}
 use Rattle.rules.specs.declared.Tick.{Tick}
-use Rattle.rules.specs.declared.Phase.the-variants.{Delayed, Released}
+use Rattle.rules.specs.declared.Phase.the-variants.{Released}
 use Rattle.rules.specs.declared.Call.the-variants.{Activate}
-use Rattle.rules.specs.declared.Choice.the-variants.{Idle, Runs}
+use Rattle.rules.specs.declared.Choice.the-variants.{Runs}
 use Rattle.rules.specs.Words.{unless}
 use Rattle.rules.specs.Table.{Table, lineOf, InRange, plus, deadlineOf, priorityOf}
 use Rattle.rules.specs.Jobs.{accepted, newJob, Before, before}

@@ -17,10 +17,11 @@ use Rattle.rules.specs.Table.{Table}
 use Rattle.rules.specs.Jobs.{Job, bare}
 use Rattle.rules.specs.Late.{newlyLate}
 use Rattle.rules.specs.Calls.{tickOf}
-use Rattle.rules.specs.Layer.{Board, fresh, result, tasks, lateTasks}
+use Rattle.rules.specs.Layer.{Board, result, tasks, lateTasks}
 use Rattle.rules.specs.Counts.{noTally, noTallies, most, up, lateMore, endedMore, onTask, withLate, responseOf, withEnded, ending, tallied}
 use Rattle.rules.specs.Run.{Head, freshHead, headNext, headRun}
-use Rattle.rules.specs.Statement.{Ended, endedAt, endedBy, endings, endedOf, lates, greatestOf, addedUp, CountsAddUp}
+use Rattle.rules.specs.Statement.{addedUp, CountsAddUp}
+use Rattle.rules.specs.History.{along, Ended, endedAt, endedBy, endings, endedOf, lates, greatestOf}
 
 -- ---- one count
 
@@ -132,12 +133,12 @@ module _ (n : ℕ) (w : Tally) where
       go (suc k) h = h
 
   -- after all calls nothing is to come
-  calls-come : (T : Table) (h : Head) (calls : List Call) → Due (lates T (h .board) calls) (endings T (h .board) calls) (h .tallies)
+  calls-come : (T : Table) (h : Head) (calls : List Call) → Due (along T (lateTasks T) (h .board) calls) (along T (endedBy T) (h .board) calls) (h .tallies)
       → Due [] [] ((headRun T h calls) .tallies)
   calls-come T h [] d = d
   calls-come T h (e ∷ es) d =
       let k = headNext T h e in
-      calls-come T k es (call-comes T (h .board) e (lates T (k .board) es) (endings T (k .board) es) (h .tallies) d)
+      calls-come T k es (call-comes T (h .board) e (along T (lateTasks T) (k .board) es) (along T (endedBy T) (k .board) es) (h .tallies) d)
 
 -- at the start every tally is 0, and all is to come
 pub counts-add-up : CountsAddUp
@@ -147,7 +148,7 @@ counts-add-up T calls n below = all-came w (of-task n ((headRun T freshHead call
     w = addedUp T calls n
 
     to-come : Tally → Type 0
-    to-come = Awaits n w (lates T fresh calls) (endings T fresh calls)
+    to-come = Awaits n w (lates T calls) (endings T calls)
 
-    start : Due n w (lates T fresh calls) (endings T fresh calls) noTallies
+    start : Due n w (lates T calls) (endings T calls) noTallies
     start = record { known = below; awaits = subst to-come (sym (getD-replicate 32 n noTally noTally below)) (omega arith) }

@@ -2,9 +2,8 @@
 use Prim.Native.Nat.{ℕ, zero, suc}
 use mathlib.Core.Path.{_≡_, refl, ap, sym, _∙_, subst}
 use mathlib.Core.Logic.{_↔_}
-use mathlib.Core.Bool.{Bool, true, false, cond}
+use mathlib.Core.Bool.{Bool, true, false}
 use mathlib.Core.List.{List, [], _∷_, map}
-use mathlib.Core.Option.{Option, some, none}
 use lib.ListN.{length}
 use lib.Dec.{eqb}
 use Rattle.rules.specs.declared.Tick.{Tick}
@@ -13,13 +12,13 @@ use Rattle.rules.specs.declared.Phase.the-variants.{Delayed, Released}
 use Rattle.rules.specs.declared.Call.{Call}
 use Rattle.rules.specs.declared.Call.the-variants.{Wait, Activate, Terminate, Chain}
 use Rattle.rules.specs.declared.Choice.the-variants.{Idle}
-use Rattle.rules.specs.Words.{unless, countBy, count, insertBy}
+use Rattle.rules.specs.Words.{unless, count, insertBy}
 use Rattle.rules.specs.Table.{Table, Keeps, priorityOf}
 use Rattle.rules.specs.Jobs.{Job, Pending, accepted, bare, newJob, before}
 use Rattle.rules.specs.Kernel.{dispatched}
 use Rattle.rules.specs.Calls.{View, refusal, tickOf}
 use Rattle.rules.specs.Late.{toldAt}
-use Rattle.rules.specs.Layer.{Board, fresh, insert, isFirst, isOf, without, settled, settledBy, entered, moves, watched, done, next, result, viewed, shown, choice, running, runningJob, tasks}
+use Rattle.rules.specs.Layer.{Board, fresh, insert, isFirst, without, settled, settledBy, entered, moves, watched, done, next, result, viewed, shown, choice, running, runningJob, tasks}
 use Rattle.rules.specs.Plain.{Plain, start, unended, plainRuns, plainTasks, plainViewed, plainResult, plainMoved, plainNext, plainRun, plainChoice}
 use Rattle.rules.specs.Run.{run}
 use Rattle.rules.specs.Statement.{Agree, Demand3}

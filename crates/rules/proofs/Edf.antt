@@ -1,13 +1,13 @@
 -- The plain scheduler runs the earliest absolute deadline, the first accepted of equal ones. Assumes nothing.
-use Prim.Native.Nat.{ℕ, _<_, _≤_}
 use mathlib.Core.Path.{_≡_, refl, ap, subst⁻¹}
+use mathlib.Core.Logic.{inl, inr}
 use mathlib.Core.Bool.{Bool, true, false, cond}
 use mathlib.Core.List.{List, [], _∷_, _++_}
 use Rattle.rules.specs.Words.{All}
 use Rattle.rules.specs.Table.{Table}
 use Rattle.rules.specs.Jobs.{Pending, Before, before}
 use Rattle.rules.specs.Plain.{earliest, rest}
-use Rattle.rules.specs.Statement.{Edf, PlainIsEdf}
+use Rattle.rules.specs.Statement.{PlainIsEdf}
 use Rattle.rules.proofs.Order.{before-true, before-false, passing, asymmetric, not-earlier, due-later}
 use Rattle.rules.proofs.Lists.{all-map, all-append}
 
@@ -59,13 +59,17 @@ picked T j (k ∷ p) = go (before T j (earliest T k p)) refl (picked T k p)
 
 -- the order is by deadline
 pub plain-is-edf : PlainIsEdf
-plain-is-edf T j p =
+plain-is-edf T [] = inl refl
+plain-is-edf T (j ∷ p) =
     let c = picked T j p in
-    record {
+    inr
+    (record {
+      e = earliest T j p;
       newer = c .newer;
       older = c .older;
       among = c .among;
+      runs = refl;
       others = c .others;
       earliest = all-map (λ k n. not-earlier T k (earliest T j p) n) (c .newer) (c .not-sooner);
       first = all-map (λ k n. due-later T (earliest T j p) k n) (c .older) (c .first);
-    }
+    })

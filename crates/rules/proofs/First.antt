@@ -1,10 +1,9 @@
 -- On a table that keeps the rule, the first job of the list is the one of the highest priority: it runs. Assumes nothing.
-use Prim.Native.Nat.{ℕ, _<_}
-use mathlib.Core.Path.{_≡_, refl, ap, sym, _∙_}
-use mathlib.Core.Bool.{Bool, true, false, cond, _&&_}
+use Prim.Native.Nat.{ℕ}
+use mathlib.Core.Path.{_≡_, refl, ap, _∙_}
+use mathlib.Core.Bool.{true, cond, _&&_}
 use mathlib.Core.List.{List, [], _∷_, _++_}
 use mathlib.Core.Option.{Option, some, none}
-use lib.Dec.{eqb, ltb}
 use native.Mathlib.Omega.{arith}
 use borrow.Author.Tests.{lt-ltb, eq-eqb}
 use Rattle.rules.specs.declared.Tick.{Tick}
@@ -16,7 +15,7 @@ use Rattle.rules.specs.Jobs.{Job, bare}
 use Rattle.rules.specs.Kernel.{dispatched, higher}
 use Rattle.rules.specs.Layer.{isOf, isReleased, runningIn, without, fresh}
 use Rattle.rules.specs.Run.{run}
-use Rattle.rules.specs.Statement.{pushed, releasedOf, FirstReleased, ApartPriorities}
+use Rattle.rules.specs.Statement.{pushed, releasedOf, ApartPriorities}
 use Rattle.rules.proofs.Lists.{rest-of, all-map}
 use Rattle.rules.proofs.Order.{Higher, ranks}
 use Rattle.rules.proofs.Invariant.{Ordered, GoodOf, behind, not-live}

@@ -1,6 +1,6 @@
 -- What holds of the list and the ready queue after each call, on any table. What a job has over the released ones behind it is a
 -- parameter P: on any table they are of other tasks, on one that keeps the rule they have lower priorities. Assumes nothing.
-use Prim.Native.Nat.{ℕ, zero, suc, _<_, _≤_}
+use Prim.Native.Nat.{ℕ, _≤_}
 use mathlib.Core.Path.{_≡_, refl, ap, sym, _∙_, subst⁻¹}
 use mathlib.Core.Bool.{Bool, true, false, cond, _&&_}
 use mathlib.Core.List.{List, [], _∷_, _++_, map}
@@ -11,15 +11,14 @@ use borrow.Author.Tests.{eqb-true, eqb-false, eq-eqb, ne-eqb}
 use Rattle.rules.specs.declared.Tick.{Tick}
 use Rattle.rules.specs.declared.Phase.{Phase}
 use Rattle.rules.specs.declared.Phase.the-variants.{Delayed, Released}
-use Rattle.rules.specs.Words.{insertBy, All, Pairs}
-use Rattle.rules.specs.Table.{Table, size}
-use Rattle.rules.specs.Jobs.{Job, Pending, accepted, bare, newJob, before}
-use Rattle.rules.specs.Kernel.{remove, ended, kernel}
+use Rattle.rules.specs.Words.{All, Pairs}
+use Rattle.rules.specs.Table.{Table}
+use Rattle.rules.specs.Jobs.{Job, Pending, bare, newJob, before}
+use Rattle.rules.specs.Kernel.{remove, ended}
 use Rattle.rules.specs.Late.{toldAt}
-use Rattle.rules.specs.Layer.{Board, insert, isFirst, isOf, isReleased, without, settled, settledBy, entered}
+use Rattle.rules.specs.Layer.{Board, insert, isFirst, isReleased, without}
 use Rattle.rules.specs.Statement.{pushed, releasedOf, FirstReleased}
 use Rattle.rules.proofs.Lists.{all-map, all-over, pairs-over, all-insert}
-use Rattle.rules.proofs.Moves.{all-without, pairs-without}
 use Rattle.rules.proofs.Order.{Made, asym, through, Ranking}
 
 abbrev Live : Phase → Type 0

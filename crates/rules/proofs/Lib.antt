@@ -1,24 +1,31 @@
-pub mod Cases
+-- The proofs. Each file opens with what it shows.
+-- words: tests, lists, sequences of calls
 pub mod Bools
 pub mod Lists
-pub mod Moves
+pub mod Along
+-- the one place where each rule is opened: the order, the late rule, the check, the refusals
 pub mod Order
+pub mod Past
+pub mod Checked
 pub mod Refusals
 pub mod Allowed
+-- what every call keeps
+pub mod Moves
 pub mod Invariant
 pub mod Step
+pub mod Room
 pub mod First
+pub mod Reached
+-- the claims
 pub mod Sorted
 pub mod Demand3
-pub mod Counted
+pub mod Broken
 pub mod Edf
 pub mod Priority
-pub mod Checked
-pub mod Broken
-pub mod Room
+pub mod Unchanged
 pub mod Releases
 pub mod Vanished
 pub mod Reported
-pub mod Unchanged
-pub mod Reached
+pub mod Counted
+pub mod Cases
 pub mod Claims

@@ -14,7 +14,7 @@ use Rattle.rules.specs.Words.{countBy, All, Pairs}
 use Rattle.rules.specs.Jobs.{Job, Pending, bare, newJob, released}
 use Rattle.rules.specs.Late.{toldAt}
 use Rattle.rules.specs.Layer.{Order, insert, isFirst, isOf, runningIn, without, settled, settledBy, entered, moved}
-use Rattle.rules.specs.Statement.{makes}
+use Rattle.rules.specs.History.{makes}
 use Rattle.rules.proofs.Lists.{all-insert, count-insert, count-front}
 
 -- ---- the running job leaves, wherever it stands

@@ -1,38 +1,61 @@
 -- The kernel runs the highest priority, and within it the first released. Assumes nothing.
-use Prim.Native.Nat.{ℕ, _<_, _≤_}
-use mathlib.Core.Path.{_≡_, refl, ap, subst⁻¹}
+use Prim.Native.Nat.{ℕ, _≤_}
+use mathlib.Core.Path.{_≡_, refl, ap, _∙_, subst⁻¹}
+use mathlib.Core.Logic.{inl, inr}
 use mathlib.Core.Bool.{Bool, true, false, cond}
-use mathlib.Core.List.{List, [], _∷_, _++_}
+use mathlib.Core.List.{List, [], _∷_}
+use mathlib.Core.Option.{some}
 use lib.Dec.{ltb}
 use native.Mathlib.Omega.{arith}
 use borrow.Author.Tests.{ltb-true, ltb-false}
 use Rattle.rules.specs.Words.{All}
-use Rattle.rules.specs.Kernel.{dispatched, higher}
+use Rattle.rules.specs.Kernel.{higher}
 use Rattle.rules.specs.Statement.{Highest, KernelIsPriority}
 use Rattle.rules.proofs.Lists.{all-map, all-append}
 
-pub kernel-is-priority : KernelIsPriority
-kernel-is-priority f n [] = record { sooner = []; later = []; among = refl; first = tt; highest = tt }
-kernel-is-priority f n (m ∷ q) = go (ltb (f n) (f (higher f m (dispatched f q)))) refl (kernel-is-priority f m q)
+-- one released before those of q, of which h runs
+module _ (level : ℕ → ℕ) (n : ℕ) (q : List ℕ) (h : Highest level q) where
+  -- it leaves the running to a higher one
+  goes-on : ltb (level n) (level (h .n)) ≡ true → Highest level (n ∷ q)
+  goes-on e =
+      record {
+        n = h .n;
+        sooner = n ∷ h .sooner;
+        later = h .later;
+        among = ap (λ z. n ∷ z) (h .among);
+        runs = ap (λ z. some (higher level n z)) (h .runs) ∙ ap (λ z. some (cond z (h .n) n)) e;
+        first = (ltb-true (level n) (level (h .n)) e, h .first);
+        highest = h .highest;
+      }
+
+  -- and runs itself where that one is not higher
+  takes-over : ltb (level n) (level (h .n)) ≡ false → Highest level (n ∷ q)
+  takes-over e =
+      let l = ltb-false (level n) (level (h .n)) e in
+      record {
+        n = n;
+        sooner = [];
+        later = q;
+        among = refl;
+        runs = ap (λ z. some (higher level n z)) (h .runs) ∙ ap (λ z. some (cond z (h .n) n)) e;
+        first = tt;
+        highest =
+            subst⁻¹ (All (λ k. level k ≤ level n)) (h .among)
+            (all-append (λ k. level k ≤ level n) (h .sooner) (h .n ∷ h .later) (all-map (λ k a. omega arith) (h .sooner) (h .first))
+            (l, all-map (λ k a. omega arith) (h .later) (h .highest)));
+      }
+
+highest-of : (level : ℕ → ℕ) (n : ℕ) (q : List ℕ) → Highest level (n ∷ q)
+highest-of level n [] = record { n = n; sooner = []; later = []; among = refl; runs = refl; first = tt; highest = tt }
+highest-of level n (m ∷ q) = go (highest-of level m q)
   where
-    go : (t : Bool) → ltb (f n) (f (higher f m (dispatched f q))) ≡ t → Highest f (m ∷ q) (higher f m (dispatched f q)) → Highest f (n ∷ m ∷ q) (cond t (higher f m (dispatched f q)) n)
-    go true e h =
-        record {
-          sooner = n ∷ h .sooner;
-          later = h .later;
-          among = ap (λ z. n ∷ z) (h .among);
-          first = (ltb-true (f n) (f (higher f m (dispatched f q))) e, h .first);
-          highest = h .highest;
-        }
-    go false e h =
-        let l = ltb-false (f n) (f (higher f m (dispatched f q))) e in
-        record {
-          sooner = [];
-          later = m ∷ q;
-          among = refl;
-          first = tt;
-          highest =
-              subst⁻¹ (All (λ k. f k ≤ f n)) (h .among)
-              (all-append (λ k. f k ≤ f n) (h .sooner) (higher f m (dispatched f q) ∷ h .later) (all-map (λ k a. omega arith) (h .sooner) (h .first))
-              (l, all-map (λ k a. omega arith) (h .later) (h .highest)));
-        }
+    go : Highest level (m ∷ q) → Highest level (n ∷ m ∷ q)
+    go h = by (ltb (level n) (level (h .n))) refl
+      where
+        by : (t : Bool) → ltb (level n) (level (h .n)) ≡ t → Highest level (n ∷ m ∷ q)
+        by true e = goes-on level n (m ∷ q) h e
+        by false e = takes-over level n (m ∷ q) h e
+
+pub kernel-is-priority : KernelIsPriority
+kernel-is-priority level [] = inl refl
+kernel-is-priority level (n ∷ q) = inr (highest-of level n q)

@@ -1,13 +1,12 @@
 -- What code may use of a state that was handed out and has since been changed by nothing but calls. Assumes nothing.
-use Prim.Native.Nat.{ℕ, _≤_}
+use Prim.Native.Nat.{_≤_}
 use mathlib.Core.Path.{_≡_, refl, ap, sym, _∙_, subst⁻¹}
 use mathlib.Core.List.{List, [], _∷_, _++_}
-use mathlib.Core.Option.{Option}
 use lib.ListN.{length}
 use Rattle.rules.specs.declared.Call.{Call}
 use Rattle.rules.specs.Words.{All}
 use Rattle.rules.specs.Table.{Table, Keeps}
-use Rattle.rules.specs.Layer.{Board, fresh, next, without, running, runningJob}
+use Rattle.rules.specs.Layer.{Board, fresh, without, running, runningJob}
 use Rattle.rules.specs.Run.{run, Head, freshHead, headNext, headRun, Reached}
 use Rattle.rules.proofs.Lists.{rest-of}
 use Rattle.rules.proofs.Order.{Higher, ranks}

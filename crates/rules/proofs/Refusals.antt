@@ -1,6 +1,6 @@
 -- Each number of a call is given exactly on its row's condition, where no earlier row applies. Assumes nothing.
-use Prim.Native.Nat.{ℕ, zero, suc, _<_, _≤_}
-use mathlib.Core.Path.{_≡_, refl, sym, _∙_}
+use Prim.Native.Nat.{ℕ, _<_, _≤_}
+use mathlib.Core.Path.{_≡_, refl, sym}
 use mathlib.Core.Logic.{_↔_, _⊎_, inl, inr}
 use mathlib.Core.Bool.{Bool, true, false, true≢false}
 use mathlib.Core.List.{List, [], _∷_}
@@ -12,10 +12,10 @@ use borrow.Author.Tests.{ltb-true, ltb-false, leb-true, leb-false}
 use Rattle.rules.specs.declared.Tick.{Tick}
 use Rattle.rules.specs.declared.Call.{Call}
 use Rattle.rules.specs.declared.Call.the-variants.{Wait, Activate, Terminate, Chain}
-use Rattle.rules.specs.Words.{_if_else_, count, All}
+use Rattle.rules.specs.Words.{_if_else_, count}
 use Rattle.rules.specs.Table.{Table, size, limitOf, deadlineOf, plus, greatest}
-use Rattle.rules.specs.Calls.{View, refusal, badTick, isIdle, badTask, atLimit, isFull, outOfReach}
-use Rattle.rules.specs.Statement.{Row, _when_, rows, Exact, BadTick, NothingRuns, NoLine, AtLimit, NoRoom, OutOfReach, RefusalsExact}
+use Rattle.rules.specs.Calls.{View, refusal, badTick, isIdle}
+use Rattle.rules.specs.Statement.{Row, _when_, rows, Exact, BadTick, NothingRuns, RefusalsExact}
 use Rattle.rules.proofs.Bools.{or-true-one, or-false-both, absurd-bool}
 
 -- ---- rows with tests that decide them

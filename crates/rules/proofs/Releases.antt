@@ -1,8 +1,8 @@
 -- The list and its releases on any table: in order, the first job released, each by exactly one kernel call. Assumes nothing.
 use Prim.Native.Nat.{ℕ, zero, suc, _+_}
 use mathlib.Core.Path.{_≡_, refl, ap, sym, _∙_}
-use mathlib.Core.Bool.{Bool, true, false, cond, _&&_}
-use mathlib.Core.List.{List, [], _∷_, _++_, map}
+use mathlib.Core.Bool.{Bool, true, false, cond}
+use mathlib.Core.List.{List, [], _∷_, map}
 use mathlib.Core.Option.{Option, some, none}
 use lib.Dec.{eqb}
 use native.Mathlib.Omega.{arith}
@@ -12,20 +12,22 @@ use Rattle.rules.specs.declared.Phase.the-variants.{Delayed, Released}
 use Rattle.rules.specs.declared.Call.{Call}
 use Rattle.rules.specs.declared.Call.the-variants.{Wait, Activate, Terminate, Chain}
 use Rattle.rules.specs.declared.KernelCall.the-variants.{NoCall}
-use Rattle.rules.specs.Words.{unless, countBy, count, Pairs}
+use Rattle.rules.specs.Words.{unless, count, Pairs}
 use Rattle.rules.specs.Table.{Table}
 use Rattle.rules.specs.Jobs.{Job, Pending, accepted, bare, newJob, Before, before}
 use Rattle.rules.specs.Kernel.{ended, kernel}
 use Rattle.rules.specs.Calls.{tickOf}
 use Rattle.rules.specs.Late.{toldAt}
-use Rattle.rules.specs.Layer.{Board, fresh, next, done, watched, result, running, runningIn, isOf, isReleased, without, insert, isFirst, settled, settledBy, entered, moves, answer}
+use Rattle.rules.specs.Layer.{Board, fresh, next, done, watched, result, running, runningIn, isOf, isReleased, without, insert, isFirst, settled, settledBy, entered, moves}
 use Rattle.rules.specs.Counts.{ending}
 use Rattle.rules.specs.Run.{run}
-use Rattle.rules.specs.Statement.{pushed, releasedOf, ListHolds, Inserted, InsertsBehind, starts, started, Ended, endedAt, endedBy, endings, endedOf, StartedOnce}
+use Rattle.rules.specs.Statement.{pushed, releasedOf, ListHolds, Inserted, InsertsBehind, StartedOnce}
+use Rattle.rules.specs.History.{starts, startedBy, Ended, endedAt, endedBy, endedOf}
+use Rattle.rules.proofs.Along.{balance}
 use Rattle.rules.proofs.Lists.{all-map, count-append}
 use Rattle.rules.proofs.Bools.{and-true-both}
 use Rattle.rules.proofs.Order.{Other, others, before-true, before-false, passing}
-use Rattle.rules.proofs.Invariant.{Ordered, Good, ends, not-live}
+use Rattle.rules.proofs.Invariant.{Ordered, Good, ends}
 use Rattle.rules.proofs.Step.{next-good, fresh-good}
 
 module _ (T : Table) where
@@ -130,7 +132,7 @@ module _ (T : Table) (n : ℕ) where
       omega (arith, ends-count b g t, settled-count n (running T b) (b .ready) (insert (before T) (newJob Delayed (accepted T t m)) (without (running T b) (map (toldAt t) (b .jobs)))))
 
   next-count : (b : Board) → Good T Other b → (e : Call)
-      → count n (starts ((answer T b e) .call)) + count n (b .ready) ≡ endedOf n (endedBy T b e) + count n ((next T b e) .ready)
+      → count n (startedBy T b e) + count n (b .ready) ≡ endedOf n (endedBy T b e) + count n ((next T b e) .ready)
   next-count b g e = go (result T b e)
     where
       go : (k : ℕ) → count n (starts (unless k NoCall ((moves T (watched (tickOf e) b) e) .call))) + count n (b .ready)
@@ -138,21 +140,9 @@ module _ (T : Table) (n : ℕ) where
       go zero = moves-count b g e
       go (suc k) = refl
 
-  started-from : (b : Board) → Good T Other b → (es : List Call)
-      → count n (started T b es) + count n (b .ready) ≡ endedOf n (endings T b es) + count n ((run T b es) .ready)
-  started-from b g [] = omega arith
-  started-from b g (e ∷ es) =
-      let ih = started-from (next T b e) (next-good T Other (others T) b g e) es in
-      let h = next-count b g e in
-      omega (
-        arith,
-        count-append (eqb n) (starts ((answer T b e) .call)) (started T (next T b e) es),
-        count-append (λ (x : Ended). eqb n (x .job .task)) (endedBy T b e) (endings T (next T b e) es),
-      )
-
 pub started-once : StartedOnce
 started-once T calls n =
     let g = fresh-good T Other (others T) calls in
-    let h = started-from T n fresh (fresh-good T Other (others T) []) calls in
+    let h = balance T (Good T Other) (next-good T Other (others T)) (startedBy T) (eqb n) (endedBy T) (λ (x : Ended). eqb n (x .job .task)) (λ (b : Board). count n (b .ready)) (next-count T n) fresh (fresh-good T Other (others T) []) calls in
     let q : count n ((run T fresh calls) .ready) ≡ count n (releasedOf ((run T fresh calls) .jobs)) = ap (count n) (g .lined .queue) in
     omega arith

@@ -1,56 +1,29 @@
 -- Late jobs: the mark is what the last accepted call's tick tells, and each accepted job is reported at most once. Assumes nothing.
-use Prim.Native.Nat.{ℕ, zero, suc, _+_, _-_, _<_, _≤_}
-use mathlib.Core.Path.{_≡_, refl, ap, sym, _∙_, subst⁻¹}
+use Prim.Native.Nat.{ℕ, zero, suc, _+_, _-_, _≤_}
+use mathlib.Core.Path.{_≡_, refl, ap, _∙_}
 use mathlib.Core.Bool.{Bool, true, false, cond, not, _&&_, _||_}
-use mathlib.Core.List.{List, [], _∷_, _++_, map}
+use mathlib.Core.List.{List, [], _∷_, map}
 use mathlib.Core.Option.{Option}
 use lib.ListN.{length, replicate, length-map, length-append, length-replicate}
-use lib.Dec.{ltb, leb}
 use native.Mathlib.Omega.{arith}
-use borrow.Author.Tests.{ltb-true, ltb-false, lt-ltb, le-ltb, le-leb, lt-leb}
 use Rattle.rules.specs.declared.Tick.{Tick}
 use Rattle.rules.specs.declared.Phase.the-variants.{Delayed}
 use Rattle.rules.specs.declared.Call.{Call}
 use Rattle.rules.specs.declared.Call.the-variants.{Wait, Activate, Terminate, Chain}
 use Rattle.rules.specs.Words.{unless, countBy, only, All}
-use Rattle.rules.specs.Table.{Table, size, Passes, plus, deadlineOf}
+use Rattle.rules.specs.Table.{Table, Passes}
 use Rattle.rules.specs.Jobs.{Job, Pending, accepted, bare, newJob, before}
 use Rattle.rules.specs.Calls.{tickOf}
 use Rattle.rules.specs.Late.{isPast, isLate, newlyLate, toldAt, fallsLate}
-use Rattle.rules.specs.Layer.{Board, fresh, next, done, watched, result, viewed, running, moved, tasks, inPlaces}
+use Rattle.rules.specs.Layer.{Board, fresh, next, done, watched, result, viewed, running, tasks, inPlaces}
 use Rattle.rules.specs.Run.{run}
-use Rattle.rules.specs.Statement.{LateIsCheap, ReportedOnce, PlacesSuffice, makes, acceptedBy, acceptances, reportedBy, reports}
+use Rattle.rules.specs.Statement.{LateIsCheap, ReportedOnce, Places, PlacesSuffice}
+use Rattle.rules.specs.History.{along, makes, acceptedBy, reportedBy}
 use Rattle.rules.proofs.Lists.{all-over, count-append, count-map, count-only, count-split}
+use Rattle.rules.proofs.Past.{stays-past, not-past-yet, falls-late}
 use Rattle.rules.proofs.Moves.{count-without, staying, moved-all, moved-count}
 use Rattle.rules.proofs.Room.{room-for-all}
 use Rattle.rules.proofs.Allowed.{Known, known-of, time-of, allowed}
-
--- ---- the late rule: all that the rest knows of it. A change of the rule is proved here, and nowhere else
-
--- what was past stays past
-stays-past : (s t due : Tick) → s .0 ≤ t .0 → (isPast s due || isPast t due) ≡ isPast t due
-unfolding isPast
-stays-past s t due h = go (ltb (due .0) (s .0)) refl
-  where
-    go : (p : Bool) → ltb (due .0) (s .0) ≡ p → (p || ltb (due .0) (t .0)) ≡ ltb (due .0) (t .0)
-    go true e = let a = ltb-true (due .0) (s .0) e in sym (lt-ltb (due .0) (t .0) (omega arith))
-    go false e = refl
-
--- an accepted job is not past at its own call
-not-past-yet : (T : Table) → Passes T → (t : Tick) (n : ℕ) → n < size T → false ≡ isPast t (plus t (deadlineOf T n))
-unfolding isPast
-not-past-yet T p t n known = sym (le-ltb ((plus t (deadlineOf T n)) .0) (t .0) (omega arith))
-
--- past now and not at the last call: the cheap test
-falls-late : (s t due : Tick) → (isPast t due && not (isPast s due)) ≡ (leb (s .0) (due .0) && ltb (due .0) (t .0))
-unfolding isPast
-falls-late s t due = go (ltb (due .0) (s .0)) refl (ltb (due .0) (t .0))
-  where
-    go : (p : Bool) → ltb (due .0) (s .0) ≡ p → (q : Bool) → (q && not p) ≡ (leb (s .0) (due .0) && q)
-    go true e true = sym (ap (λ z. z && true) (lt-leb (s .0) (due .0) (ltb-true (due .0) (s .0) e)))
-    go true e false = sym (ap (λ z. z && false) (lt-leb (s .0) (due .0) (ltb-true (due .0) (s .0) e)))
-    go false e true = sym (ap (λ z. z && true) (le-leb (s .0) (due .0) (ltb-false (due .0) (s .0) e)))
-    go false e false = sym (ap (λ z. z && false) (le-leb (s .0) (due .0) (ltb-false (due .0) (s .0) e)))
 
 -- ---- the mark is what the last accepted call's tick tells
 
@@ -156,15 +129,15 @@ module _ (test : Pending → Bool) where
           )
       go (suc k) = omega arith
 
-  reported-from : (T : Table) (b : Board) (es : List Call) → countBy test (reports T b es) ≤ countBy test (acceptances T b es) + countBy untold (b .jobs)
+  reported-from : (T : Table) (b : Board) (es : List Call) → countBy test (along T (reportedBy T) b es) ≤ countBy test (along T (acceptedBy T) b es) + countBy untold (b .jobs)
   reported-from T b [] = omega arith
   reported-from T b (e ∷ es) =
       omega (
         arith,
         reported-from T (next T b e) es,
         next-count T b e,
-        count-append test (reportedBy T b e) (reports T (next T b e) es),
-        count-append test (acceptedBy T b e) (acceptances T (next T b e) es),
+        count-append test (reportedBy T b e) (along T (reportedBy T) (next T b e) es),
+        count-append test (acceptedBy T b e) (along T (acceptedBy T) (next T b e) es),
       )
 
 pub reported-once : ReportedOnce
@@ -180,8 +153,19 @@ only-fewer f (j ∷ l) = go (f j) (only-fewer f l)
     go true h = omega arith
     go false h = omega arith
 
-places : (l : List ℕ) → length l ≤ 32 → length ((inPlaces l) .tasks) ≡ 32
-places l h = omega (arith, length-append l (replicate (32 - length l) 0), length-replicate {A = ℕ} (32 - length l) 0)
+all-zero : (n : ℕ) → All (λ (m : ℕ). m ≡ 0) (replicate n 0)
+all-zero zero = tt
+all-zero (suc n) = (refl, all-zero n)
+
+places : (l : List ℕ) → length l ≤ 32 → Places l (inPlaces l)
+places l h =
+    record {
+      counted = refl;
+      unused = replicate (32 - length l) 0;
+      placed = refl;
+      zeros = all-zero (32 - length l);
+      in-all = omega (arith, length-append l (replicate (32 - length l) 0), length-replicate {A = ℕ} (32 - length l) 0);
+    }
 
 pub places-suffice : PlacesSuffice
 places-suffice T p calls e = go (result T b e)
@@ -192,7 +176,7 @@ places-suffice T p calls e = go (result T b e)
     late : List Job
     late = newlyLate (tickOf e) (b .jobs)
 
-    go : (k : ℕ) → length ((inPlaces (unless k [] (tasks late))) .tasks) ≡ 32
+    go : (k : ℕ) → Places (unless k [] (tasks late)) (inPlaces (unless k [] (tasks late)))
     go zero =
         places (tasks late)
         (omega (arith, length-map late (λ (j : Job). j .task), only-fewer (λ (j : Job). isLate (tickOf e) j && not (j .told)) (b .jobs), room-for-all T p calls))

@@ -20,7 +20,8 @@ use Rattle.rules.specs.Calls.{tickOf}
 use Rattle.rules.specs.Late.{toldAt}
 use Rattle.rules.specs.Layer.{Board, fresh, next, done, watched, result, viewed, without, moved, tasks, running}
 use Rattle.rules.specs.Run.{run}
-use Rattle.rules.specs.Statement.{NoTen, makes}
+use Rattle.rules.specs.Statement.{NoTen}
+use Rattle.rules.specs.History.{makes}
 use Rattle.rules.proofs.Lists.{count-map}
 use Rattle.rules.proofs.Moves.{count-without, without-told, staying, moved-count}
 use Rattle.rules.proofs.Checked.{listed-line}

@@ -1,5 +1,5 @@
 -- Every accepted call keeps the invariant, on any table. Assumes nothing.
-use Prim.Native.Nat.{ℕ, zero, suc, _<_, _≤_}
+use Prim.Native.Nat.{ℕ, zero, suc, _<_}
 use mathlib.Core.Path.{_≡_, refl, ap, sym, _∙_, subst⁻¹}
 use mathlib.Core.Bool.{Bool, true, false}
 use mathlib.Core.List.{List, [], _∷_, _++_, map}
@@ -18,7 +18,8 @@ use Rattle.rules.specs.Calls.{tickOf}
 use Rattle.rules.specs.Late.{toldAt}
 use Rattle.rules.specs.Layer.{Board, insert, isFirst, without, settled, settledBy, entered, moved, fresh, viewed, result, running, watched, done, next}
 use Rattle.rules.specs.Run.{run}
-use Rattle.rules.specs.Statement.{pushed, releasedOf, FirstReleased, makes}
+use Rattle.rules.specs.Statement.{pushed, releasedOf, FirstReleased}
+use Rattle.rules.specs.History.{makes}
 use Rattle.rules.proofs.Moves.{all-without, pairs-without, moved-all}
 use Rattle.rules.proofs.Allowed.{Known, known-of, time-of, allowed}
 use Rattle.rules.proofs.Order.{Made, Ranking}

@@ -2,7 +2,6 @@
 use Prim.Native.Nat.{ℕ, zero, suc}
 use mathlib.Core.Path.{_≡_, refl}
 use mathlib.Core.List.{List, []}
-use Rattle.rules.specs.declared.Call.{Call}
 use Rattle.rules.specs.declared.KernelCall.{KernelCall}
 use Rattle.rules.specs.declared.KernelCall.the-variants.{NoCall}
 use Rattle.rules.specs.declared.Answer.{Answer}

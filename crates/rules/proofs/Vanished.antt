@@ -2,7 +2,7 @@
 use Prim.Native.Nat.{ℕ, zero, suc, _+_}
 use mathlib.Core.Path.{_≡_, refl, ap, _∙_}
 use mathlib.Core.Bool.{Bool}
-use mathlib.Core.List.{List, [], _∷_, _++_, map}
+use mathlib.Core.List.{List, [], map}
 use mathlib.Core.Option.{Option, some, none}
 use native.Mathlib.Omega.{arith}
 use Rattle.rules.specs.declared.Tick.{Tick}
@@ -17,7 +17,9 @@ use Rattle.rules.specs.Late.{toldAt}
 use Rattle.rules.specs.Layer.{Board, fresh, next, done, watched, result, running, runningIn, without}
 use Rattle.rules.specs.Counts.{ending}
 use Rattle.rules.specs.Run.{run}
-use Rattle.rules.specs.Statement.{Ended, endedAt, endedBy, endings, makes, acceptedBy, acceptances, NothingVanishes}
+use Rattle.rules.specs.Statement.{NothingVanishes}
+use Rattle.rules.specs.History.{Ended, endedAt, endedBy, makes, acceptedBy}
+use Rattle.rules.proofs.Along.{balance}
 use Rattle.rules.proofs.Lists.{count-append, count-map}
 use Rattle.rules.proofs.Moves.{found, count-leaves, without-told, staying, moved-count}
 
@@ -71,17 +73,10 @@ module _ (test : Pending → Bool) where
           )
       go (suc k) = refl
 
-  run-count : (T : Table) (b : Board) (es : List Call)
-      → countBy test (acceptances T b es) + countBy of-job (b .jobs) ≡ countBy of-ended (endings T b es) + countBy of-job ((run T b es) .jobs)
-  run-count T b [] = refl
-  run-count T b (e ∷ es) =
-      omega (
-        arith,
-        run-count T (next T b e) es,
-        next-count T b e,
-        count-append test (acceptedBy T b e) (acceptances T (next T b e) es),
-        count-append of-ended (endedBy T b e) (endings T (next T b e) es),
-      )
-
 pub nothing-vanishes : NothingVanishes
-nothing-vanishes T calls test = omega (arith, run-count test T fresh calls, count-map test bare ((run T fresh calls) .jobs))
+nothing-vanishes T calls test =
+    omega (
+      arith,
+      balance T (λ b. Unit {0}) (λ b i e. tt) (acceptedBy T) test (endedBy T) (of-ended test) (λ (b : Board). countBy (of-job test) (b .jobs)) (λ b i. next-count test T b) fresh tt calls,
+      count-map test bare ((run T fresh calls) .jobs),
+    )

@@ -1,7 +1,7 @@
 -- Document 01, "The program and one whole run" and "Errors a builder could fall into": the printed run and cases a to l, as one statement. Assumes nothing.
 use Prim.Native.Nat.{ℕ}
 use mathlib.Core.Path.{_≡_}
-use mathlib.Core.Bool.{Bool, true, false}
+use mathlib.Core.Bool.{false}
 use mathlib.Core.List.{List, [], _∷_}
 use lib.ListN.{take}
 use Rattle.rules.specs.declared.Tick.{Tick}
@@ -16,7 +16,7 @@ use Rattle.rules.specs.declared.Choice.{Choice}
 use Rattle.rules.specs.declared.Choice.the-variants.{Idle, Runs}
 use Rattle.rules.specs.declared.Answer.{Answer}
 use Rattle.rules.specs.declared.Tally.{Tally}
-use Rattle.rules.specs.declared.NumberRead.the-variants.{Refused}
+use Rattle.rules.specs.declared.NumberRead.the-variants.{Value, Refused}
 use Rattle.rules.specs.Number.{numberAt}
 use Rattle.rules.specs.Table.{Table, verdict, check}
 use Rattle.rules.specs.Jobs.{Job}
@@ -49,6 +49,12 @@ tableP = table (line 3 12 2 ∷ line 5 11 2 ∷ line 5 10 2 ∷ [])
 abbrev pub tableE : Table
 tableE = table (line 3 1 1 ∷ line 5 2 1 ∷ [])
 
+abbrev pub tableF : Table
+tableF = table (line 3 2 1 ∷ line 5 2 1 ∷ [])
+
+abbrev pub longerFirst : List Call
+longerFirst = Activate (at 0) 1 ∷ Activate (at 0) 0 ∷ []
+
 abbrev pub upToTick3 : List Call
 upToTick3 = Activate (at 0) 0 ∷ Activate (at 0) 2 ∷ Activate (at 0) 1 ∷ Terminate (at 1) ∷ Activate (at 3) 0 ∷ []
 
@@ -77,6 +83,7 @@ pub record Cases : Type 0 where
   pub a-stays-delayed :
       (run tableP fresh upToTick3) .jobs ≡ job 2 0 5 Released ∷ job 1 0 5 Delayed ∷ job 0 3 6 Delayed ∷ []
   pub a-runs-on : choice tableP (run tableP fresh upToTick3) ≡ Runs 2 (at 5)
+  pub a-plain : plainChoice tableP ((plainRun tableP start upToTick3) .pending) ≡ Runs 2 (at 5)
   pub b-no-second-start :
       answers tableP fresh (Activate (at 0) 1 ∷ Activate (at 1) 0 ∷ Terminate (at 2) ∷ [])
       ≡ says 0 (Runs 1 (at 5)) (ActivateTask 1) [] ∷ says 0 (Runs 0 (at 4)) (ActivateTask 0) [] ∷ says 0 (Runs 1 (at 5)) TerminateTask [] ∷ []
@@ -86,17 +93,28 @@ pub record Cases : Type 0 where
       ≡ says 0 (Runs 0 (at 31)) (ActivateTask 0) [] ∷ says 0 (Runs 0 (at 31)) NoCall [] ∷ []
   pub d-second-due : (run (table (line 10 9 1 ∷ line 12 8 1 ∷ [])) fresh (Activate (at 21) 0 ∷ Activate (at 22) 1 ∷ [])) .jobs ≡ job 0 21 31 Released ∷ job 1 22 34 Delayed ∷ []
   pub e-refused : check tableE ≡ verdict 5 (0 ∷ 1 ∷ [])
-  pub e-kernel : choice tableE (run tableE fresh (Activate (at 0) 1 ∷ Activate (at 0) 0 ∷ [])) ≡ Runs 1 (at 5)
-  pub e-plain : plainChoice tableE ((plainRun tableE start (Activate (at 0) 1 ∷ Activate (at 0) 0 ∷ [])) .pending) ≡ Runs 0 (at 3)
-  pub f-refused : check (table (line 3 2 1 ∷ line 5 2 1 ∷ [])) ≡ verdict 5 (0 ∷ 1 ∷ [])
+  pub e-kernel : choice tableE (run tableE fresh longerFirst) ≡ Runs 1 (at 5)
+  pub e-plain : plainChoice tableE ((plainRun tableE start longerFirst) .pending) ≡ Runs 0 (at 3)
+  pub f-refused : check tableF ≡ verdict 5 (0 ∷ 1 ∷ [])
+  pub f-kernel : choice tableF (run tableF fresh longerFirst) ≡ Runs 1 (at 5)
+  pub f-plain : plainChoice tableF ((plainRun tableF start longerFirst) .pending) ≡ Runs 0 (at 3)
   pub g-accepted : check (table (line 5 2 1 ∷ line 5 2 1 ∷ [])) ≡ verdict 0 []
   pub h-chain : result tableP (run tableP fresh twoOfTask0) (Chain (at 0) 0) ≡ 0
   pub h-activate : result tableP (run tableP fresh twoOfTask0) (Activate (at 0) 0) ≡ 4
   pub i-nothing-runs : result tableP fresh (Terminate (at 0)) ≡ 2
   pub i-goes-back : result tableP (run tableP fresh (Wait (at 5) ∷ [])) (Terminate (at 4)) ≡ 8
+  pub i-changes-nothing : run tableP fresh (Wait (at 5) ∷ Terminate (at 4) ∷ []) ≡ run tableP fresh (Wait (at 5) ∷ [])
   pub j-on-time : answer tableP (run tableP fresh (Activate (at 3) 0 ∷ [])) (Terminate (at 6)) ≡ says 0 Idle TerminateTask []
   pub j-late : answer tableP (run tableP fresh (Activate (at 3) 0 ∷ [])) (Terminate (at 7)) ≡ says 0 Idle TerminateTask (0 ∷ [])
+  pub j-counts : take 1 ((headRun tableP freshHead (Activate (at 3) 0 ∷ Terminate (at 7) ∷ [])) .tallies) ≡ tally 1 1 4 ∷ []
   pub k-not-shortest : numberAt (0x80 ∷ 0x00 ∷ []) 0 ≡ Refused 21
   pub k-cut-off : numberAt (0x80 ∷ []) 0 ≡ Refused 20
+  pub k-127 : numberAt (0x7F ∷ []) 0 ≡ Value 127 1
+  pub k-128 : numberAt (0x80 ∷ 0x01 ∷ []) 0 ≡ Value 128 2
+  pub k-300 : numberAt (0xAC ∷ 0x02 ∷ []) 0 ≡ Value 300 2
+  pub k-nine-groups :
+      numberAt (0xFF ∷ 0xFF ∷ 0xFF ∷ 0xFF ∷ 0xFF ∷ 0xFF ∷ 0xFF ∷ 0xFF ∷ 0x3F ∷ []) 0 ≡ Value 4611686018427387903 9
+  pub k-tenth-group :
+      numberAt (0xFF ∷ 0xFF ∷ 0xFF ∷ 0xFF ∷ 0xFF ∷ 0xFF ∷ 0xFF ∷ 0xFF ∷ 0xBF ∷ 0x01 ∷ []) 0 ≡ Refused 23
   pub l-fits : check (table (line 3 2 16 ∷ line 5 1 16 ∷ [])) ≡ verdict 0 []
   pub l-too-many : check (table (line 3 2 16 ∷ line 5 1 17 ∷ [])) ≡ verdict 4 []

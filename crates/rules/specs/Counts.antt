@@ -1,6 +1,6 @@
 -- Document 01, "What a call returns": what is counted per task. Assumes nothing.
-use Prim.Native.Nat.{ℕ, zero, suc, _-_, max}
-use mathlib.Core.Bool.{Bool, true, false, cond}
+use Prim.Native.Nat.{ℕ, suc, _-_, max}
+use mathlib.Core.Bool.{cond}
 use mathlib.Core.List.{List, [], _∷_}
 use mathlib.Core.Option.{Option, some, none}
 use lib.ListN.{getD, set, replicate}

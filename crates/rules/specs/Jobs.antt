@@ -1,10 +1,10 @@
 -- Document 01, "Ticks and jobs": a job, and the order of the list. Assumes nothing.
 use Prim.Native.Nat.{ℕ, _<_}
-use mathlib.Core.Bool.{Bool, true, false}
+use mathlib.Core.Bool.{Bool, false}
 use lib.Dec.{ltb}
 use Rattle.rules.specs.declared.Tick.{Tick}
 use Rattle.rules.specs.declared.Phase.{Phase}
-use Rattle.rules.specs.declared.Phase.the-variants.{Delayed, Released}
+use Rattle.rules.specs.declared.Phase.the-variants.{Released}
 use Rattle.rules.specs.Table.{Table, plus, deadlineOf}
 
 -- what every scheduler knows of a pending job: its task, when it was activated, and when it is due

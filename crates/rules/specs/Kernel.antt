@@ -1,10 +1,10 @@
 -- Document 01, "Ticks and jobs", the kernel model: a ready queue, the tasks of the released jobs in the order of their release.
 -- It knows tasks and their priorities, and nothing of deadlines. Assumes nothing.
 use Prim.Native.Nat.{ℕ}
-use mathlib.Core.Bool.{Bool, true, false, cond}
+use mathlib.Core.Bool.{cond}
 use mathlib.Core.List.{List, [], _∷_, _++_}
 use mathlib.Core.Option.{Option, some, none}
-use lib.Dec.{ltb, leb, eqb}
+use lib.Dec.{ltb, eqb}
 use Rattle.rules.specs.declared.KernelCall.{KernelCall}
 use Rattle.rules.specs.declared.KernelCall.the-variants.{NoCall, ActivateTask, ChainTask, TerminateTask}
 

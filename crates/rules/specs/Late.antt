@@ -1,6 +1,5 @@
 -- Document 01, "What a call returns": late jobs. Assumes nothing.
-use Prim.Native.Nat.{ℕ}
-use mathlib.Core.Bool.{Bool, true, false, not, _&&_, _||_}
+use mathlib.Core.Bool.{Bool, not, _&&_, _||_}
 use mathlib.Core.List.{List}
 use lib.Dec.{ltb, leb}
 use Rattle.rules.specs.declared.Tick.{Tick}

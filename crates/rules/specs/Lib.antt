@@ -10,6 +10,7 @@ pub mod Counts
 pub mod Plain
 pub mod Number
 pub mod Run
+pub mod History
 pub mod Statement
 pub mod Cases
 pub mod Claims

@@ -1,6 +1,6 @@
 -- Document 01, "Ticks and jobs", the plain scheduler of demand 3: no priorities, no delayed state, no kernel calls. Assumes nothing.
 use Prim.Native.Nat.{ℕ}
-use mathlib.Core.Bool.{Bool, true, false, cond}
+use mathlib.Core.Bool.{cond}
 use mathlib.Core.List.{List, [], _∷_, map}
 use mathlib.Core.Option.{Option, some, none}
 use Rattle.rules.specs.declared.Tick.{Tick}

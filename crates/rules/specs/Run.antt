@@ -1,5 +1,4 @@
 -- Document 01, "The program and one whole run": a sequence of calls from a fresh start. Assumes nothing.
-use Prim.Native.Nat.{ℕ}
 use mathlib.Core.Path.{_≡_}
 use mathlib.Core.List.{List, [], _∷_}
 use Rattle.rules.specs.declared.Call.{Call}

@@ -1,33 +1,31 @@
 -- What is claimed of the rules. Each claim is a type; specs/Claims.antt gathers them. Assumes nothing.
-use Prim.Native.Nat.{ℕ, _+_, _<_, _≤_, min, max}
+use Prim.Native.Nat.{ℕ, _+_, _<_, _≤_, min}
 use mathlib.Core.Path.{_≡_}
 use mathlib.Core.Logic.{_↔_, _⊎_}
-use mathlib.Core.Bool.{Bool, cond}
+use mathlib.Core.Bool.{Bool}
 use mathlib.Core.List.{List, [], _∷_, _++_, map}
-use mathlib.Core.Option.{Option, some, none}
+use mathlib.Core.Option.{some, none}
 use lib.ListN.{length, getD}
-use lib.Dec.{eqb}
 use Rattle.rules.specs.declared.Tick.{Tick}
-use Rattle.rules.specs.declared.Line.{Line}
 use Rattle.rules.specs.declared.Phase.{Phase}
 use Rattle.rules.specs.declared.Phase.the-variants.{Delayed, Released}
 use Rattle.rules.specs.declared.Call.{Call}
 use Rattle.rules.specs.declared.Call.the-variants.{Wait, Activate, Terminate, Chain}
-use Rattle.rules.specs.declared.KernelCall.{KernelCall}
-use Rattle.rules.specs.declared.KernelCall.the-variants.{NoCall, ActivateTask, ChainTask, TerminateTask}
-use Rattle.rules.specs.declared.Choice.{Choice}
+use Rattle.rules.specs.declared.KernelCall.the-variants.{NoCall}
 use Rattle.rules.specs.declared.Choice.the-variants.{Idle, Runs}
+use Rattle.rules.specs.declared.Late.{Late}
 use Rattle.rules.specs.declared.Tally.{Tally}
-use Rattle.rules.specs.Words.{unless, Within, countBy, count, only, All, Pairs}
-use Rattle.rules.specs.Table.{Table, size, lineOf, deadlineOf, priorityOf, limitOf, limits, greatest, plus, DeadlineInRange, LimitInRange, InRange, Passes, Keeps, Verdict, verdict, check}
-use Rattle.rules.specs.Jobs.{Job, Pending, accepted, bare, Before, before}
-use Rattle.rules.specs.Kernel.{dispatched, higher}
-use Rattle.rules.specs.Calls.{View, refusal, tickOf}
+use Rattle.rules.specs.Words.{Within, countBy, count, only, All, Pairs}
+use Rattle.rules.specs.Table.{Table, size, lineOf, deadlineOf, priorityOf, limitOf, limits, plus, DeadlineInRange, LimitInRange, InRange, Passes, Keeps, Verdict, verdict, check}
+use Rattle.rules.specs.Jobs.{Job, Pending, bare, Before, before}
+use Rattle.rules.specs.Kernel.{dispatched}
+use Rattle.rules.specs.Calls.{View, refusal}
 use Rattle.rules.specs.Late.{newlyLate, fallsLate}
-use Rattle.rules.specs.Layer.{Board, insert, fresh, next, result, choice, answer, inPlaces, lateTasks}
-use Rattle.rules.specs.Counts.{noTally, most, ending, responseOf}
-use Rattle.rules.specs.Plain.{Plain, start, plainRun, plainChoice, plainResult, earliest, rest}
+use Rattle.rules.specs.Layer.{Board, insert, fresh, result, choice, answer, inPlaces, lateTasks}
+use Rattle.rules.specs.Counts.{noTally}
+use Rattle.rules.specs.Plain.{Plain, start, plainRun, plainChoice, plainResult, unended}
 use Rattle.rules.specs.Run.{run, Head, freshHead, headNext, headRun}
+use Rattle.rules.specs.History.{started, Ended, endings, endedOf, greatestOf, acceptances, reports, lates}
 
 -- ==== demand 3
 
@@ -68,28 +66,34 @@ Demand3-broken = (T : Table) (i j : ℕ) → Broken T i j → Part T i j × ((ch
 
 -- ==== the two schedulers are what their names say
 
--- e runs of the pending jobs p, the last accepted first, and r are the others: none is due earlier, and those accepted before e are due later
-pub record Edf (p : List Pending) (e : Pending) (r : List Pending) : Type 0 where
+-- of the pending jobs p, the last accepted first, e runs: none is due earlier, and those accepted before e are due later
+pub record Edf (T : Table) (p : List Pending) : Type 0 where
+  pub e : Pending
   pub newer : List Pending
   pub older : List Pending
   pub among : p ≡ newer ++ (e ∷ older)
-  pub others : r ≡ newer ++ older
+  pub runs : plainChoice T p ≡ Runs (e .task) (e .due)
+  pub others : unended T p ≡ newer ++ older
   pub earliest : All (λ (j : Pending). e .due .0 ≤ j .due .0) newer
   pub first : All (λ (j : Pending). e .due .0 < j .due .0) older
 
+-- the plain scheduler runs the earliest deadline, the first accepted on equal ones
 abbrev pub PlainIsEdf : Type 0
-PlainIsEdf = (T : Table) (j : Pending) (p : List Pending) → Edf (j ∷ p) (earliest T j p) (rest T j p)
+PlainIsEdf = (T : Table) (p : List Pending) → (p ≡ []) ⊎ (Edf T p)
 
--- n runs of the ready queue q: it is higher than all that were released before it, and no later one is higher
-pub record Highest (level : ℕ → ℕ) (q : List ℕ) (n : ℕ) : Type 0 where
+-- of the ready queue q, n runs: all that were released before it are lower, and none is higher
+pub record Highest (level : ℕ → ℕ) (q : List ℕ) : Type 0 where
+  pub n : ℕ
   pub sooner : List ℕ
   pub later : List ℕ
   pub among : q ≡ sooner ++ (n ∷ later)
+  pub runs : dispatched level q ≡ some n
   pub first : All (λ m. level m < level n) sooner
   pub highest : All (λ m. level m ≤ level n) later
 
+-- the kernel runs the highest priority, the first released on equal ones
 abbrev pub KernelIsPriority : Type 0
-KernelIsPriority = (level : ℕ → ℕ) (n : ℕ) (q : List ℕ) → Highest level (n ∷ q) (higher level n (dispatched level q))
+KernelIsPriority = (level : ℕ → ℕ) (q : List ℕ) → (q ≡ []) ⊎ (Highest level q)
 
 -- ==== the check
 
@@ -141,7 +145,7 @@ abbrev pub _when_ : ℕ → Type 0 → Row
 _when_ k c = record { number = k; condition = c }
 
 abbrev pub BadTick : Tick → Tick → Type 0
-BadTick last t = (t .0 < last .0) ⊎ (greatest .0 < t .0)
+BadTick last t = (t .0 < last .0) ⊎ (4611686018427387903 < t .0)
 
 abbrev pub NothingRuns : View → Type 0
 NothingRuns v = v .runs ≡ none
@@ -156,7 +160,7 @@ abbrev pub NoRoom : List ℕ → Type 0
 NoRoom l = 32 ≤ length l
 
 abbrev pub OutOfReach : Table → Tick → ℕ → Type 0
-OutOfReach T t n = greatest .0 < (plus t (deadlineOf T n)) .0
+OutOfReach T t n = 4611686018427387903 < t .0 + (deadlineOf T n) .0
 
 -- the rows of each kind of call, in their order
 abbrev pub rows : Table → View → Call → List Row
@@ -234,63 +238,18 @@ pub record Inserted (T : Table) (j : Job) (l m : List Job) : Type 0 where
 abbrev pub InsertsBehind : Type 0
 InsertsBehind = (T : Table) (calls : List Call) (j : Job) → Inserted T j ((run T fresh calls) .jobs) (insert (before T) j ((run T fresh calls) .jobs))
 
--- the tasks that the kernel calls of a sequence started
-abbrev pub starts : KernelCall → List ℕ
-starts NoCall = []
-starts (ActivateTask n) = n ∷ []
-starts (ChainTask n) = n ∷ []
-starts TerminateTask = []
-
-abbrev pub started : Table → Board → List Call → List ℕ
-started T b [] = []
-started T b (e ∷ es) = starts ((answer T b e) .call) ++ started T (next T b e) es
-
--- the jobs that its accepted calls ended, each with the tick
-pub record Ended : Type 0 where
-  pub job : Pending
-  pub tick : Tick
-
-abbrev pub endedAt : Tick → Option Job → List Ended
-endedAt t none = []
-endedAt t (some j) = record { job = bare j; tick = t } ∷ []
-
-abbrev pub endedBy : Table → Board → Call → List Ended
-endedBy T b e = unless (result T b e) [] (endedAt (tickOf e) (ending T b e))
-
-abbrev pub endings : Table → Board → List Call → List Ended
-endings T b [] = []
-endings T b (e ∷ es) = endedBy T b e ++ endings T (next T b e) es
-
--- how many of task n
-abbrev pub endedOf : ℕ → List Ended → ℕ
-endedOf n l = countBy (λ (x : Ended). eqb n (x .job .task)) l
-
 -- a job is released by exactly one kernel call: of each task as many were started as ended and are released now. Nothing starts twice, nothing released vanishes
 abbrev pub StartedOnce : Type 0
 StartedOnce =
     (T : Table) (calls : List Call) (n : ℕ)
-    → count n (started T fresh calls) ≡ endedOf n (endings T fresh calls) + count n (releasedOf ((run T fresh calls) .jobs))
-
--- the jobs that its accepted calls made
-abbrev pub makes : (Tick → ℕ → Pending) → Call → List Pending
-makes new (Wait t) = []
-makes new (Activate t n) = new t n ∷ []
-makes new (Terminate t) = []
-makes new (Chain t n) = new t n ∷ []
-
-abbrev pub acceptedBy : Table → Board → Call → List Pending
-acceptedBy T b e = unless (result T b e) [] (makes (accepted T) e)
-
-abbrev pub acceptances : Table → Board → List Call → List Pending
-acceptances T b [] = []
-acceptances T b (e ∷ es) = acceptedBy T b e ++ acceptances T (next T b e) es
+    → count n (started T calls) ≡ endedOf n (endings T calls) + count n (releasedOf ((run T fresh calls) .jobs))
 
 -- a call may be refused by number, it may not vanish: of the jobs that pass any test, as many were accepted as ended and are pending now
 abbrev pub NothingVanishes : Type 0
 NothingVanishes =
     (T : Table) (calls : List Call) (test : Pending → Bool)
-    → countBy test (acceptances T fresh calls)
-    ≡ countBy (λ (x : Ended). test (x .job)) (endings T fresh calls) + countBy test (map bare ((run T fresh calls) .jobs))
+    → countBy test (acceptances T calls)
+    ≡ countBy (λ (x : Ended). test (x .job)) (endings T calls) + countBy test (map bare ((run T fresh calls) .jobs))
 
 -- two released jobs never share a priority, on a table that passes checks 1 to 4 and keeps the rule
 abbrev pub ApartPriorities : Type 0
@@ -307,41 +266,30 @@ LateIsCheap =
     (T : Table) → Passes T → (calls : List Call) (t : Tick)
     → newlyLate t ((run T fresh calls) .jobs) ≡ only (fallsLate ((run T fresh calls) .last) t) ((run T fresh calls) .jobs)
 
--- the jobs that a sequence reported as late
-abbrev pub reportedBy : Table → Board → Call → List Pending
-reportedBy T b e = unless (result T b e) [] (map bare (newlyLate (tickOf e) (b .jobs)))
-
-abbrev pub reports : Table → Board → List Call → List Pending
-reports T b [] = []
-reports T b (e ∷ es) = reportedBy T b e ++ reports T (next T b e) es
-
 -- each accepted job is reported at most once: of the jobs that pass any test, no more were reported than accepted
 abbrev pub ReportedOnce : Type 0
 ReportedOnce =
     (T : Table) (calls : List Call) (test : Pending → Bool)
-    → countBy test (reports T fresh calls) ≤ countBy test (acceptances T fresh calls)
+    → countBy test (reports T calls) ≤ countBy test (acceptances T calls)
 
--- the 32 places of an answer hold all newly late tasks
+-- their count and task numbers, in 32 places, unused places 0
+pub record Places (tasks : List ℕ) (late : Late) : Type 0 where
+  pub counted : late .count ≡ length tasks
+  pub unused : List ℕ
+  pub placed : late .tasks ≡ tasks ++ unused
+  pub zeros : All (λ n. n ≡ 0) unused
+  pub in-all : length (late .tasks) ≡ 32
+
 abbrev pub PlacesSuffice : Type 0
-PlacesSuffice = (T : Table) → Passes T → (calls : List Call) (e : Call) → length ((answer T (run T fresh calls) e) .late .tasks) ≡ 32
-
--- all late tasks that a sequence's answers reported
-abbrev pub lates : Table → Board → List Call → List ℕ
-lates T b [] = []
-lates T b (e ∷ es) = lateTasks T b e ++ lates T (next T b e) es
-
--- the greatest response of task n
-abbrev pub greatestOf : ℕ → List Ended → ℕ
-greatestOf n [] = 0
-greatestOf n (x ∷ l) = cond (eqb n (x .job .task)) (max (responseOf (x .tick) (x .job)) (greatestOf n l)) (greatestOf n l)
+PlacesSuffice = (T : Table) → Passes T → (calls : List Call) (e : Call) → Places (lateTasks T (run T fresh calls) e) ((answer T (run T fresh calls) e) .late)
 
 -- what the accepted calls of a sequence add up to, for task n
 abbrev pub addedUp : Table → List Call → ℕ → Tally
 addedUp T calls n =
     record {
-      late = min (count n (lates T fresh calls)) most;
-      ended = min (endedOf n (endings T fresh calls)) most;
-      response = greatestOf n (endings T fresh calls);
+      late = min (count n (lates T calls)) 4294967295;
+      ended = min (endedOf n (endings T calls)) 4294967295;
+      response = greatestOf n (endings T calls);
     }
 
 -- the counts follow from the accepted calls

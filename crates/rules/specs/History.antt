@@ -1,0 +1,86 @@
+-- What the calls of a sequence did, from a fresh start on: kernel calls made, jobs accepted, ended and reported. Assumes nothing.
+use Prim.Native.Nat.{ℕ, max}
+use mathlib.Core.Bool.{cond}
+use mathlib.Core.List.{List, [], _∷_, _++_, map}
+use mathlib.Core.Option.{Option, some, none}
+use lib.Dec.{eqb}
+use Rattle.rules.specs.declared.Tick.{Tick}
+use Rattle.rules.specs.declared.Call.{Call}
+use Rattle.rules.specs.declared.Call.the-variants.{Wait, Activate, Terminate, Chain}
+use Rattle.rules.specs.declared.KernelCall.{KernelCall}
+use Rattle.rules.specs.declared.KernelCall.the-variants.{NoCall, ActivateTask, ChainTask, TerminateTask}
+use Rattle.rules.specs.Words.{unless, countBy}
+use Rattle.rules.specs.Table.{Table}
+use Rattle.rules.specs.Jobs.{Job, Pending, accepted, bare}
+use Rattle.rules.specs.Calls.{tickOf}
+use Rattle.rules.specs.Late.{newlyLate}
+use Rattle.rules.specs.Layer.{Board, fresh, next, result, answer, lateTasks}
+use Rattle.rules.specs.Counts.{ending, responseOf}
+
+-- what each call did, one behind the other
+abbrev pub along {ℓ} : {A : Type ℓ} → Table → (Board → Call → List A) → Board → List Call → List A
+along T did b [] = []
+along T did b (e ∷ es) = did b e ++ along T did (next T b e) es
+
+-- a refused call did nothing
+abbrev pub ifAccepted {ℓ} : {A : Type ℓ} → Table → Board → Call → List A → List A
+ifAccepted T b e l = unless (result T b e) [] l
+
+-- the tasks that the kernel calls started
+abbrev pub starts : KernelCall → List ℕ
+starts NoCall = []
+starts (ActivateTask n) = n ∷ []
+starts (ChainTask n) = n ∷ []
+starts TerminateTask = []
+
+abbrev pub startedBy : Table → Board → Call → List ℕ
+startedBy T b e = starts ((answer T b e) .call)
+
+abbrev pub started : Table → List Call → List ℕ
+started T calls = along T (startedBy T) fresh calls
+
+-- the jobs that accepted calls made
+abbrev pub makes : (Tick → ℕ → Pending) → Call → List Pending
+makes new (Wait t) = []
+makes new (Activate t n) = new t n ∷ []
+makes new (Terminate t) = []
+makes new (Chain t n) = new t n ∷ []
+
+abbrev pub acceptedBy : Table → Board → Call → List Pending
+acceptedBy T b e = ifAccepted T b e (makes (accepted T) e)
+
+abbrev pub acceptances : Table → List Call → List Pending
+acceptances T calls = along T (acceptedBy T) fresh calls
+
+-- the jobs that they ended, each with the ending tick
+pub record Ended : Type 0 where
+  pub job : Pending
+  pub tick : Tick
+
+abbrev pub endedAt : Tick → Option Job → List Ended
+endedAt t none = []
+endedAt t (some j) = record { job = bare j; tick = t } ∷ []
+
+abbrev pub endedBy : Table → Board → Call → List Ended
+endedBy T b e = ifAccepted T b e (endedAt (tickOf e) (ending T b e))
+
+abbrev pub endings : Table → List Call → List Ended
+endings T calls = along T (endedBy T) fresh calls
+
+-- how many of them are of task n, and the greatest response
+abbrev pub endedOf : ℕ → List Ended → ℕ
+endedOf n l = countBy (λ (x : Ended). eqb n (x .job .task)) l
+
+abbrev pub greatestOf : ℕ → List Ended → ℕ
+greatestOf n [] = 0
+greatestOf n (x ∷ l) = cond (eqb n (x .job .task)) (max (responseOf (x .tick) (x .job)) (greatestOf n l)) (greatestOf n l)
+
+-- the jobs that they reported as late, and the tasks in their answers
+abbrev pub reportedBy : Table → Board → Call → List Pending
+reportedBy T b e = ifAccepted T b e (map bare (newlyLate (tickOf e) (b .jobs)))
+
+abbrev pub reports : Table → List Call → List Pending
+reports T calls = along T (reportedBy T) fresh calls
+
+abbrev pub lates : Table → List Call → List ℕ
+lates T calls = along T (lateTasks T) fresh calls
