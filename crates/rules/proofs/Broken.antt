@@ -13,7 +13,7 @@ use Rattle.rules.specs.Words.{unless}
 use Rattle.rules.specs.Table.{Table, lineOf, InRange, plus, deadlineOf, priorityOf}
 use Rattle.rules.specs.Jobs.{accepted, newJob, Before, before}
 use Rattle.rules.specs.Calls.{View, refusal}
-use Rattle.rules.specs.Late.{toldAt}
+use Rattle.rules.specs.Late.{reportedAt}
 use Rattle.rules.specs.Layer.{Board, fresh, watched, done, next, viewed, choice}
 use Rattle.rules.specs.Plain.{Plain, start, plainNext, plainRun, plainChoice, plainViewed}
 use Rattle.rules.specs.Run.{run}
@@ -41,7 +41,7 @@ module _ (T : Table) (i j : ℕ) (h : Broken T i j) (t : Tick) (small : t .0 ≤
   board-2 =
       record {
         last = t;
-        jobs = newJob Released (accepted T t i) ∷ toldAt t (newJob Released (accepted T t j)) ∷ [];
+        jobs = newJob Released (accepted T t i) ∷ reportedAt t (newJob Released (accepted T t j)) ∷ [];
         ready = j ∷ i ∷ [];
       }
 

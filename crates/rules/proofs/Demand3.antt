@@ -17,13 +17,13 @@ use Rattle.rules.specs.Table.{Table, Keeps, priorityOf}
 use Rattle.rules.specs.Jobs.{Job, Pending, accepted, bare, newJob, before}
 use Rattle.rules.specs.Kernel.{dispatched}
 use Rattle.rules.specs.Calls.{View, refusal, tickOf}
-use Rattle.rules.specs.Late.{toldAt}
+use Rattle.rules.specs.Late.{reportedAt}
 use Rattle.rules.specs.Layer.{Board, fresh, insert, isFirst, without, settled, settledBy, entered, moves, watched, done, next, result, viewed, shown, choice, running, runningJob, tasks}
 use Rattle.rules.specs.Plain.{Plain, start, unended, plainRuns, plainTasks, plainViewed, plainResult, plainMoved, plainNext, plainRun, plainChoice}
 use Rattle.rules.specs.Run.{run}
 use Rattle.rules.specs.Statement.{Agree, Demand3}
 use Rattle.rules.proofs.Lists.{rest-of, map-insert, count-map}
-use Rattle.rules.proofs.Moves.{without-told}
+use Rattle.rules.proofs.Moves.{without-reported}
 use Rattle.rules.proofs.Order.{Higher, ranks}
 use Rattle.rules.proofs.Sorted.{sorted, runs-of, task-of, choice-sorted, unended-sorted, runs-sorted, count-sorted, length-sorted}
 use Rattle.rules.proofs.Invariant.{Good}
@@ -76,9 +76,9 @@ length-tasks : (p : List Pending) → length (plainTasks p) ≡ length p
 length-tasks [] = refl
 length-tasks (j ∷ p) = ap suc (length-tasks p)
 
-told-bare : (t : Tick) (l : List Job) → map bare (map (toldAt t) l) ≡ map bare l
-told-bare t [] = refl
-told-bare t (j ∷ l) = ap (λ z. bare j ∷ z) (told-bare t l)
+reported-bare : (t : Tick) (l : List Job) → map bare (map (reportedAt t) l) ≡ map bare l
+reported-bare t [] = refl
+reported-bare t (j ∷ l) = ap (λ z. bare j ∷ z) (reported-bare t l)
 
 settled-bare : (l : List Job) → map bare ((settled l) .jobs) ≡ map bare l
 settled-bare [] = refl
@@ -111,12 +111,12 @@ module _ (T : Table) (keeps : Keeps T) (b : Board) (p : Plain) (g : Good T (High
   rest-list =
       ap (map bare) (leaves T keeps (b .last) (b .jobs) (b .ready) g (running T b) top) ∙ rest-bare (b .jobs) ∙ ap rest-of (r .list) ∙ sym (unended-sorted T (p .pending))
 
-  -- the same once late jobs were told of
-  told-list : (t : Tick) → map bare (map (toldAt t) (b .jobs)) ≡ sorted T (p .pending)
-  told-list t = told-bare t (b .jobs) ∙ r .list
+  -- the same once late jobs were reported
+  reported-list : (t : Tick) → map bare (map (reportedAt t) (b .jobs)) ≡ sorted T (p .pending)
+  reported-list t = reported-bare t (b .jobs) ∙ r .list
 
-  told-rest : (t : Tick) → map bare (without (running T b) (map (toldAt t) (b .jobs))) ≡ sorted T (unended T (p .pending))
-  told-rest t = ap (map bare) (without-told t (running T b) (b .jobs)) ∙ told-bare t (without (running T b) (b .jobs)) ∙ rest-list
+  reported-rest : (t : Tick) → map bare (without (running T b) (map (reportedAt t) (b .jobs))) ≡ sorted T (unended T (p .pending))
+  reported-rest t = ap (map bare) (without-reported t (running T b) (b .jobs)) ∙ reported-bare t (without (running T b) (b .jobs)) ∙ rest-list
 
   pub results-alike : (e : Call) → result T b e ≡ plainResult T p e
   results-alike (Wait t) = alike-wait T (viewed T b) (plainViewed T p) (r .last) t
@@ -129,15 +129,15 @@ module _ (T : Table) (keeps : Keeps T) (b : Board) (p : Plain) (g : Good T (High
       (count-tasks T n (without (running T b) (b .jobs)) (unended T (p .pending)) rest-list)
 
   moved-list : (e : Call) → map bare ((moves T (watched (tickOf e) b) e) .jobs) ≡ sorted T (plainMoved T (p .pending) e)
-  moved-list (Wait t) = told-list t
+  moved-list (Wait t) = reported-list t
   moved-list (Activate t n) =
-      entered-bare T (accepted T t n) (map (toldAt t) (b .jobs)) (isFirst (before T) (accepted T t n) (map (toldAt t) (b .jobs)))
-      ∙ ap (insertBy (before T) (accepted T t n)) (told-list t)
-  moved-list (Terminate t) = settled-bare (without (running T b) (map (toldAt t) (b .jobs))) ∙ told-rest t
+      entered-bare T (accepted T t n) (map (reportedAt t) (b .jobs)) (isFirst (before T) (accepted T t n) (map (reportedAt t) (b .jobs)))
+      ∙ ap (insertBy (before T) (accepted T t n)) (reported-list t)
+  moved-list (Terminate t) = settled-bare (without (running T b) (map (reportedAt t) (b .jobs))) ∙ reported-rest t
   moved-list (Chain t n) =
-      settled-bare (insert (before T) (newJob Delayed (accepted T t n)) (without (running T b) (map (toldAt t) (b .jobs))))
-      ∙ map-insert bare (before T) (newJob Delayed (accepted T t n)) (without (running T b) (map (toldAt t) (b .jobs)))
-      ∙ ap (insertBy (before T) (accepted T t n)) (told-rest t)
+      settled-bare (insert (before T) (newJob Delayed (accepted T t n)) (without (running T b) (map (reportedAt t) (b .jobs))))
+      ∙ map-insert bare (before T) (newJob Delayed (accepted T t n)) (without (running T b) (map (reportedAt t) (b .jobs)))
+      ∙ ap (insertBy (before T) (accepted T t n)) (reported-rest t)
 
   pub runs-job : runningJob T b ≡ first-of (b .jobs)
   runs-job = runs-first T keeps (b .last) (b .jobs) (b .ready) g (running T b) top

@@ -15,7 +15,7 @@ use Rattle.rules.specs.Words.{All, Pairs}
 use Rattle.rules.specs.Table.{Table}
 use Rattle.rules.specs.Jobs.{Job, Pending, bare, newJob, before}
 use Rattle.rules.specs.Kernel.{remove, ended}
-use Rattle.rules.specs.Late.{toldAt}
+use Rattle.rules.specs.Late.{reportedAt}
 use Rattle.rules.specs.Layer.{Board, insert, isFirst, isReleased, without}
 use Rattle.rules.specs.Statement.{pushed, releasedOf, FirstReleased}
 use Rattle.rules.proofs.Lists.{all-map, all-over, pairs-over, all-insert}
@@ -55,28 +55,28 @@ pub record GoodOf (T : Table) (P : ℕ → ℕ → Type 0) (now : Tick) (jobs : 
 abbrev pub Good : Table → (ℕ → ℕ → Type 0) → Board → Type 0
 Good T P b = GoodOf T P (b .last) (b .jobs) (b .ready)
 
--- ---- time moves, and late jobs are told of: nothing else changes
+-- ---- time moves, and late jobs are reported: nothing else changes
 
-released-told : (t : Tick) (l : List Job) → releasedOf (map (toldAt t) l) ≡ releasedOf l
-released-told t [] = refl
-released-told t (j ∷ l) = ap (pushed (j .phase) (j .task)) (released-told t l)
+released-reported : (t : Tick) (l : List Job) → releasedOf (map (reportedAt t) l) ≡ releasedOf l
+released-reported t [] = refl
+released-reported t (j ∷ l) = ap (pushed (j .phase) (j .task)) (released-reported t l)
 
-first-told : (t : Tick) (l : List Job) → FirstReleased l → FirstReleased (map (toldAt t) l)
-first-told t [] h = h
-first-told t (j ∷ l) h = h
+first-reported : (t : Tick) (l : List Job) → FirstReleased l → FirstReleased (map (reportedAt t) l)
+first-reported t [] h = h
+first-reported t (j ∷ l) h = h
 
-pub watched-good : (T : Table) (P : ℕ → ℕ → Type 0) (s t : Tick) → s .0 ≤ t .0 → (l : List Job) (q : List ℕ) → GoodOf T P s l q → GoodOf T P t (map (toldAt t) l) q
+pub watched-good : (T : Table) (P : ℕ → ℕ → Type 0) (s t : Tick) → s .0 ≤ t .0 → (l : List Job) (q : List ℕ) → GoodOf T P s l q → GoodOf T P t (map (reportedAt t) l) q
 watched-good T P s t h l q g =
     record {
-      sound = all-over (Sound T s) (Sound T t) (toldAt t) later l (g .sound);
+      sound = all-over (Sound T s) (Sound T t) (reportedAt t) later l (g .sound);
       lined = record {
-        ordered = pairs-over (λ j k. Ahead T P (bare j) k) (λ j k. Ahead T P (bare j) k) (toldAt t) (λ j k a. record { order = a .order; over = a .over }) l (g .lined .ordered);
-        first = first-told t l (g .lined .first);
-        queue = g .lined .queue ∙ sym (released-told t l);
+        ordered = pairs-over (λ j k. Ahead T P (bare j) k) (λ j k. Ahead T P (bare j) k) (reportedAt t) (λ j k a. record { order = a .order; over = a .over }) l (g .lined .ordered);
+        first = first-reported t l (g .lined .first);
+        queue = g .lined .queue ∙ sym (released-reported t l);
       };
     }
   where
-    later : (j : Job) → Sound T s j → Sound T t (toldAt t j)
+    later : (j : Job) → Sound T s j → Sound T t (reportedAt t j)
     later j m = record { made = record { known = m .made .known; dues = m .made .dues; past = omega (arith, m .made .past) } }
 
 -- ---- the running job leaves the list and the queue

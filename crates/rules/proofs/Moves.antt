@@ -12,7 +12,7 @@ use Rattle.rules.specs.declared.Call.{Call}
 use Rattle.rules.specs.declared.Call.the-variants.{Wait, Activate, Terminate, Chain}
 use Rattle.rules.specs.Words.{countBy, All, Pairs}
 use Rattle.rules.specs.Jobs.{Job, Pending, bare, newJob, released}
-use Rattle.rules.specs.Late.{toldAt}
+use Rattle.rules.specs.Late.{reportedAt}
 use Rattle.rules.specs.Layer.{Order, insert, isFirst, isOf, runningIn, without, settled, settledBy, entered, moved}
 use Rattle.rules.specs.History.{makes}
 use Rattle.rules.proofs.Lists.{all-insert, count-insert, count-front}
@@ -59,16 +59,16 @@ count-leaves g (some n) (j ∷ l) = go (isOf n j) (count-leaves g (some n) l)
 pub count-without : (g : Job → Bool) (r : Option ℕ) (l : List Job) → countBy g (without r l) ≤ countBy g l
 count-without g r l = omega (arith, count-leaves g r l)
 
--- it is the same job whether late ones were told of or not
-pub without-told : (t : Tick) (r : Option ℕ) (l : List Job) → without r (map (toldAt t) l) ≡ map (toldAt t) (without r l)
-without-told t none l = refl
-without-told t (some n) [] = refl
-without-told t (some n) (j ∷ l) = go (isOf n j) (without-told t (some n) l)
+-- it is the same job whether late ones were reported or not
+pub without-reported : (t : Tick) (r : Option ℕ) (l : List Job) → without r (map (reportedAt t) l) ≡ map (reportedAt t) (without r l)
+without-reported t none l = refl
+without-reported t (some n) [] = refl
+without-reported t (some n) (j ∷ l) = go (isOf n j) (without-reported t (some n) l)
   where
-    go : (s : Bool) → without (some n) (map (toldAt t) l) ≡ map (toldAt t) (without (some n) l)
-        → cond s (map (toldAt t) l) (toldAt t j ∷ without (some n) (map (toldAt t) l)) ≡ map (toldAt t) (cond s l (j ∷ without (some n) l))
+    go : (s : Bool) → without (some n) (map (reportedAt t) l) ≡ map (reportedAt t) (without (some n) l)
+        → cond s (map (reportedAt t) l) (reportedAt t j ∷ without (some n) (map (reportedAt t) l)) ≡ map (reportedAt t) (cond s l (j ∷ without (some n) l))
     go true ih = refl
-    go false ih = ap (λ z. toldAt t j ∷ z) ih
+    go false ih = ap (λ z. reportedAt t j ∷ z) ih
 
 -- ---- what stays
 

@@ -14,7 +14,7 @@ use Rattle.rules.proofs.Invariant.{Good}
 use Rattle.rules.proofs.Step.{fresh-good}
 use Rattle.rules.proofs.First.{first-of, first-task, top-first, leaves, runs-first}
 use Rattle.rules.proofs.Room.{room-for-all}
-use Rattle.rules.proofs.Reported.{Told, fresh-told}
+use Rattle.rules.proofs.Reported.{Marked, fresh-marked}
 
 pub run-last : (T : Table) (h : Head) (es : List Call) (e : Call) → headRun T h (es ++ (e ∷ [])) ≡ headNext T (headRun T h es) e
 run-last T h [] e = refl
@@ -39,8 +39,8 @@ module _ (T : Table) (keeps : Keeps T) (h : Head) (r : Reached T h) where
   pub reached-good : Good T (Higher T) (h .board)
   reached-good = subst⁻¹ (Good T (Higher T)) reached-board (fresh-good T (Higher T) (ranks T keeps) (r .calls))
 
-  pub reached-told : All (Told (h .board .last)) (h .board .jobs)
-  reached-told = subst⁻¹ (λ (z : Board). All (Told (z .last)) (z .jobs)) reached-board (fresh-told T (keeps .passes) (r .calls))
+  pub reached-marked : All (Marked (h .board .last)) (h .board .jobs)
+  reached-marked = subst⁻¹ (λ (z : Board). All (Marked (z .last)) (z .jobs)) reached-board (fresh-marked T (keeps .passes) (r .calls))
 
   -- the list has room
   pub reached-room : length (h .board .jobs) ≤ 32

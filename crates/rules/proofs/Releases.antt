@@ -17,7 +17,7 @@ use Rattle.rules.specs.Table.{Table}
 use Rattle.rules.specs.Jobs.{Job, Pending, accepted, bare, newJob, Before, before}
 use Rattle.rules.specs.Kernel.{ended, kernel}
 use Rattle.rules.specs.Calls.{tickOf}
-use Rattle.rules.specs.Late.{toldAt}
+use Rattle.rules.specs.Late.{reportedAt}
 use Rattle.rules.specs.Layer.{Board, fresh, next, done, watched, result, running, runningIn, isOf, isReleased, without, insert, isFirst, settled, settledBy, entered, moves}
 use Rattle.rules.specs.Counts.{ending}
 use Rattle.rules.specs.Run.{run}
@@ -123,13 +123,13 @@ module _ (T : Table) (n : ℕ) where
       ≡ endedOf n (endedAt (tickOf e) (ending T b e)) + count n ((done T (watched (tickOf e) b) e) .ready)
   moves-count b g (Wait t) = refl
   moves-count b g (Activate t m) =
-      let l = map (toldAt t) (b .jobs) in
+      let l = map (reportedAt t) (b .jobs) in
       let h = entered-count T n (running T b) (b .ready) (accepted T t m) l (isFirst (before T) (accepted T t m) l) in
       omega arith
   moves-count b g (Terminate t) =
-      omega (arith, ends-count b g t, settled-count n (running T b) (b .ready) (without (running T b) (map (toldAt t) (b .jobs))))
+      omega (arith, ends-count b g t, settled-count n (running T b) (b .ready) (without (running T b) (map (reportedAt t) (b .jobs))))
   moves-count b g (Chain t m) =
-      omega (arith, ends-count b g t, settled-count n (running T b) (b .ready) (insert (before T) (newJob Delayed (accepted T t m)) (without (running T b) (map (toldAt t) (b .jobs)))))
+      omega (arith, ends-count b g t, settled-count n (running T b) (b .ready) (insert (before T) (newJob Delayed (accepted T t m)) (without (running T b) (map (reportedAt t) (b .jobs)))))
 
   next-count : (b : Board) → Good T Other b → (e : Call)
       → count n (startedBy T b e) + count n (b .ready) ≡ endedOf n (endedBy T b e) + count n ((next T b e) .ready)

@@ -17,13 +17,13 @@ use Rattle.rules.specs.Words.{unless, countBy, count}
 use Rattle.rules.specs.Table.{Table, size, noLine, limits, limitOf, Passes}
 use Rattle.rules.specs.Jobs.{Job, Pending, accepted, newJob, before}
 use Rattle.rules.specs.Calls.{tickOf}
-use Rattle.rules.specs.Late.{toldAt}
+use Rattle.rules.specs.Late.{reportedAt}
 use Rattle.rules.specs.Layer.{Board, fresh, next, done, watched, result, viewed, without, moved, tasks, running}
 use Rattle.rules.specs.Run.{run}
 use Rattle.rules.specs.Statement.{NoTen}
 use Rattle.rules.specs.History.{makes}
 use Rattle.rules.proofs.Lists.{count-map}
-use Rattle.rules.proofs.Moves.{count-without, without-told, staying, moved-count}
+use Rattle.rules.proofs.Moves.{count-without, without-reported, staying, moved-count}
 use Rattle.rules.proofs.Checked.{listed-line}
 use Rattle.rules.proofs.Refusals.{refusals-exact, not-given}
 use Rattle.rules.proofs.Allowed.{allowed}
@@ -80,15 +80,15 @@ one-more T n l known h f m = go (eqb m n) refl
     go true e = subst (λ z. count z l < listedLimit T z) (sym (eqb-true m n e)) below
     go false e = f m
 
-told-tasks : (t : Tick) (l : List Job) → tasks (map (toldAt t) l) ≡ tasks l
-told-tasks t [] = refl
-told-tasks t (j ∷ l) = ap (λ z. j .task ∷ z) (told-tasks t l)
+reported-tasks : (t : Tick) (l : List Job) → tasks (map (reportedAt t) l) ≡ tasks l
+reported-tasks t [] = refl
+reported-tasks t (j ∷ l) = ap (λ z. j .task ∷ z) (reported-tasks t l)
 
-told-staying : (t : Tick) (r : Option ℕ) (l : List Job) (e : Call) → tasks (staying r (map (toldAt t) l) e) ≡ tasks (staying r l e)
-told-staying t r l (Wait s) = told-tasks t l
-told-staying t r l (Activate s n) = told-tasks t l
-told-staying t r l (Terminate s) = ap tasks (without-told t r l) ∙ told-tasks t (without r l)
-told-staying t r l (Chain s n) = ap tasks (without-told t r l) ∙ told-tasks t (without r l)
+reported-staying : (t : Tick) (r : Option ℕ) (l : List Job) (e : Call) → tasks (staying r (map (reportedAt t) l) e) ≡ tasks (staying r l e)
+reported-staying t r l (Wait s) = reported-tasks t l
+reported-staying t r l (Activate s n) = reported-tasks t l
+reported-staying t r l (Terminate s) = ap tasks (without-reported t r l) ∙ reported-tasks t (without r l)
+reported-staying t r l (Chain s n) = ap tasks (without-reported t r l) ∙ reported-tasks t (without r l)
 
 count-tasks : (n : ℕ) (l : List Job) → count n (tasks l) ≡ countBy (λ (j : Job). eqb n (j .task)) l
 count-tasks n l = count-map (eqb n) (λ (j : Job). j .task) l
@@ -141,7 +141,7 @@ next-fits T b e h = go (result T b e) refl
     go zero z =
         λ n.
         subst (λ m. m ≤ listedLimit T n)
-        (sym (moved-tasks T n (running T b) (map (toldAt (tickOf e)) (b .jobs)) e ∙ ap (λ x. count n (come ++ x)) (told-staying (tickOf e) (running T b) (b .jobs) e)))
+        (sym (moved-tasks T n (running T b) (map (reportedAt (tickOf e)) (b .jobs)) e ∙ ap (λ x. count n (come ++ x)) (reported-staying (tickOf e) (running T b) (b .jobs) e)))
         (coming-fits T b e z (staying-fits T (running T b) (b .jobs) e h) n)
     go (suc k) z = h
 

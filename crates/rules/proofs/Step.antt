@@ -15,7 +15,7 @@ use Rattle.rules.specs.Table.{Table, size}
 use Rattle.rules.specs.Jobs.{Job, Pending, accepted, bare, newJob, before}
 use Rattle.rules.specs.Kernel.{ended, kernel}
 use Rattle.rules.specs.Calls.{tickOf}
-use Rattle.rules.specs.Late.{toldAt}
+use Rattle.rules.specs.Late.{reportedAt}
 use Rattle.rules.specs.Layer.{Board, insert, isFirst, without, settled, settledBy, entered, moved, fresh, viewed, result, running, watched, done, next}
 use Rattle.rules.specs.Run.{run}
 use Rattle.rules.specs.Statement.{pushed, releasedOf, FirstReleased}
@@ -92,7 +92,7 @@ module _ (T : Table) (P : ℕ → ℕ → Type 0) (rank : Ranking T P) where
   pub done-good : (b : Board) → Good T P b → (e : Call) → result T b e ≡ 0 → Good T P (done T (watched (tickOf e) b) e)
   done-good b g e z =
       let a = allowed T (viewed T b) e z in
-      moved-good (running T b) (map (toldAt (tickOf e)) (b .jobs)) (b .ready) e (known-of T (viewed T b) e a)
+      moved-good (running T b) (map (reportedAt (tickOf e)) (b .jobs)) (b .ready) e (known-of T (viewed T b) e a)
       (watched-good T P (b .last) (tickOf e) (time-of T (viewed T b) e a) (b .jobs) (b .ready) g)
 
   pub next-good : (b : Board) → Good T P b → (e : Call) → Good T P (next T b e)

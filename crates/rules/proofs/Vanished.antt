@@ -13,7 +13,7 @@ use Rattle.rules.specs.Words.{unless, countBy}
 use Rattle.rules.specs.Table.{Table}
 use Rattle.rules.specs.Jobs.{Job, Pending, accepted, bare, newJob, before}
 use Rattle.rules.specs.Calls.{tickOf}
-use Rattle.rules.specs.Late.{toldAt}
+use Rattle.rules.specs.Late.{reportedAt}
 use Rattle.rules.specs.Layer.{Board, fresh, next, done, watched, result, running, runningIn, without}
 use Rattle.rules.specs.Counts.{ending}
 use Rattle.rules.specs.Run.{run}
@@ -21,7 +21,7 @@ use Rattle.rules.specs.Statement.{NothingVanishes}
 use Rattle.rules.specs.History.{Ended, endedAt, endedBy, makes, acceptedBy}
 use Rattle.rules.proofs.Along.{balance}
 use Rattle.rules.proofs.Lists.{count-append, count-map}
-use Rattle.rules.proofs.Moves.{found, count-leaves, without-told, staying, moved-count}
+use Rattle.rules.proofs.Moves.{found, count-leaves, without-reported, staying, moved-count}
 
 module _ (test : Pending → Bool) where
   abbrev of-job : Job → Bool
@@ -37,21 +37,21 @@ module _ (test : Pending → Bool) where
   made-count : (p : List Pending) → countBy of-job (map (newJob Delayed) p) ≡ countBy test p
   made-count p = count-map of-job (newJob Delayed) p
 
-  -- the job that runs leaves, whether late jobs were told of or not
+  -- the job that runs leaves, whether late jobs were reported or not
   leaves-count : (t : Tick) (r : Option ℕ) (l : List Job)
-      → countBy of-ended (endedAt t (runningIn r l)) + countBy of-job (without r (map (toldAt t) l)) ≡ countBy of-job l
+      → countBy of-ended (endedAt t (runningIn r l)) + countBy of-job (without r (map (reportedAt t) l)) ≡ countBy of-job l
   leaves-count t r l =
       omega (
         arith,
         ended-count t (runningIn r l),
         count-leaves of-job r l,
-        ap (countBy of-job) (without-told t r l) ∙ count-map of-job (toldAt t) (without r l),
+        ap (countBy of-job) (without-reported t r l) ∙ count-map of-job (reportedAt t) (without r l),
       )
 
   staying-count : (T : Table) (b : Board) (e : Call)
-      → countBy of-ended (endedAt (tickOf e) (ending T b e)) + countBy of-job (staying (running T b) (map (toldAt (tickOf e)) (b .jobs)) e) ≡ countBy of-job (b .jobs)
-  staying-count T b (Wait t) = omega (arith, count-map of-job (toldAt t) (b .jobs))
-  staying-count T b (Activate t n) = omega (arith, count-map of-job (toldAt t) (b .jobs))
+      → countBy of-ended (endedAt (tickOf e) (ending T b e)) + countBy of-job (staying (running T b) (map (reportedAt (tickOf e)) (b .jobs)) e) ≡ countBy of-job (b .jobs)
+  staying-count T b (Wait t) = omega (arith, count-map of-job (reportedAt t) (b .jobs))
+  staying-count T b (Activate t n) = omega (arith, count-map of-job (reportedAt t) (b .jobs))
   staying-count T b (Terminate t) = leaves-count t (running T b) (b .jobs)
   staying-count T b (Chain t n) = leaves-count t (running T b) (b .jobs)
 
@@ -63,7 +63,7 @@ module _ (test : Pending → Bool) where
       go : (k : ℕ) → countBy test (unless k [] (makes (accepted T) e)) + countBy of-job (b .jobs)
           ≡ countBy of-ended (unless k [] (endedAt (tickOf e) (ending T b e))) + countBy of-job ((unless k b (done T (watched (tickOf e) b) e)) .jobs)
       go zero =
-          let l = map (toldAt (tickOf e)) (b .jobs) in
+          let l = map (reportedAt (tickOf e)) (b .jobs) in
           omega (
             arith,
             moved-count of-job (λ j. refl) (before T) (accepted T) (running T b) l e,

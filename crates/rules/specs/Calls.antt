@@ -24,22 +24,28 @@ pub record View : Type 0 where
   pub pending : List ℕ
   pub others : List ℕ
 
+-- 8: tick below the last accepted call's, or above the greatest tick
 abbrev pub badTick : Tick → Tick → Bool
 badTick last t = ltb (t .0) (last .0) || ltb (greatest .0) (t .0)
 
+-- 2: nothing runs
 abbrev pub isIdle : Option ℕ → Bool
 isIdle none = true
 isIdle (some n) = false
 
+-- 3: task number has no line
 abbrev pub badTask : Table → ℕ → Bool
 badTask T n = leb (size T) n
 
+-- 4: the task already has its limit of pending jobs; for chain the ending job isn't counted
 abbrev pub atLimit : Table → ℕ → List ℕ → Bool
 atLimit T n l = leb (limitOf T n) (count n l)
 
+-- 10: 32 jobs pending
 abbrev pub isFull : List ℕ → Bool
 isFull l = leb 32 (length l)
 
+-- 9: t + D above the greatest tick
 abbrev pub outOfReach : Table → Tick → ℕ → Bool
 outOfReach T t n = ltb (greatest .0) ((plus t (deadlineOf T n)) .0)
 

@@ -35,7 +35,7 @@ at t = record { 0 = t }
 
 -- a job of task n, activated at t, due at d
 abbrev pub job : ℕ → ℕ → ℕ → Phase → Job
-job n t d s = record { task = n; since = at t; due = at d; phase = s; told = false }
+job n t d s = record { task = n; since = at t; due = at d; phase = s; reported = false }
 
 abbrev pub says : ℕ → Choice → KernelCall → List ℕ → Answer
 says r c k l = record { result = r; running = c; call = k; late = inPlaces l }
@@ -45,6 +45,9 @@ tally l e r = record { late = l; ended = e; response = r }
 
 abbrev pub tableP : Table
 tableP = table (line 3 12 2 ∷ line 5 11 2 ∷ line 5 10 2 ∷ [])
+
+abbrev pub tableD : Table
+tableD = table (line 10 9 1 ∷ line 12 8 1 ∷ [])
 
 abbrev pub tableE : Table
 tableE = table (line 3 1 1 ∷ line 5 2 1 ∷ [])
@@ -89,9 +92,10 @@ pub record Cases : Type 0 where
       ≡ says 0 (Runs 1 (at 5)) (ActivateTask 1) [] ∷ says 0 (Runs 0 (at 4)) (ActivateTask 0) [] ∷ says 0 (Runs 1 (at 5)) TerminateTask [] ∷ []
   pub c-behind-its-equal : (run tableP fresh twoOfTask0) .jobs ≡ job 0 0 3 Released ∷ job 0 0 3 Delayed ∷ []
   pub d-own-deadlines :
-      answers (table (line 10 9 1 ∷ line 12 8 1 ∷ [])) fresh (Activate (at 21) 0 ∷ Activate (at 22) 1 ∷ [])
+      answers tableD fresh (Activate (at 21) 0 ∷ Activate (at 22) 1 ∷ [])
       ≡ says 0 (Runs 0 (at 31)) (ActivateTask 0) [] ∷ says 0 (Runs 0 (at 31)) NoCall [] ∷ []
-  pub d-second-due : (run (table (line 10 9 1 ∷ line 12 8 1 ∷ [])) fresh (Activate (at 21) 0 ∷ Activate (at 22) 1 ∷ [])) .jobs ≡ job 0 21 31 Released ∷ job 1 22 34 Delayed ∷ []
+  pub d-second-waits :
+      (run tableD fresh (Activate (at 21) 0 ∷ Activate (at 22) 1 ∷ [])) .jobs ≡ job 0 21 31 Released ∷ job 1 22 34 Delayed ∷ []
   pub e-refused : check tableE ≡ verdict 5 (0 ∷ 1 ∷ [])
   pub e-kernel : choice tableE (run tableE fresh longerFirst) ≡ Runs 1 (at 5)
   pub e-plain : plainChoice tableE ((plainRun tableE start longerFirst) .pending) ≡ Runs 0 (at 3)

@@ -7,7 +7,7 @@ use Rattle.rules.specs.declared.Phase.{Phase}
 use Rattle.rules.specs.declared.Phase.the-variants.{Released}
 use Rattle.rules.specs.Table.{Table, plus, deadlineOf}
 
--- what every scheduler knows of a pending job: its task, when it was activated, and when it is due
+-- a pending job: its task, when it was activated, and when it is due
 pub record Pending : Type 0 where
   pub task : ℕ
   pub since : Tick
@@ -17,24 +17,25 @@ pub record Pending : Type 0 where
 abbrev pub accepted : Table → Tick → ℕ → Pending
 accepted T t n = record { task = n; since = t; due = plus t (deadlineOf T n) }
 
--- a pending job of the layer's list also records whether it is delayed or released, and whether it was told of as late
+-- in the layer's list it also records whether it is delayed or released, and whether it was reported as late
 pub record Job : Type 0 where
   pub task : ℕ
   pub since : Tick
   pub due : Tick
   pub phase : Phase
-  pub told : Bool
+  pub reported : Bool
 
+-- what the plain scheduler knows of it
 abbrev pub bare : Job → Pending
 bare j = record { task = j .task; since = j .since; due = j .due }
 
 -- a job new in the list
 abbrev pub newJob : Phase → Pending → Job
-newJob s j = record { task = j .task; since = j .since; due = j .due; phase = s; told = false }
+newJob s j = record { task = j .task; since = j .since; due = j .due; phase = s; reported = false }
 
 -- the same job, released
 abbrev pub released : Job → Job
-released j = record { task = j .task; since = j .since; due = j .due; phase = Released; told = j .told }
+released j = record { task = j .task; since = j .since; due = j .due; phase = Released; reported = j .reported }
 
 -- what orders a job: its deadline
 unfoldable pub keyAt : Table → Tick → ℕ

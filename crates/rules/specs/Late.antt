@@ -13,14 +13,14 @@ isPast t due = ltb (due .0) (t .0)
 abbrev pub isLate : Tick → Job → Bool
 isLate t j = isPast t (j .due)
 
--- it is reported once, at the first such call: late, and not told of before
+-- it is reported once, at the first such call: late, and not reported before
 abbrev pub newlyLate : Tick → List Job → List Job
-newlyLate t l = only (λ (j : Job). isLate t j && not (j .told)) l
+newlyLate t l = only (λ (j : Job). isLate t j && not (j .reported)) l
 
--- from that call on it is told of
-abbrev pub toldAt : Tick → Job → Job
-toldAt t j = record { task = j .task; since = j .since; due = j .due; phase = j .phase; told = j .told || isLate t j }
+-- the job after that call
+abbrev pub reportedAt : Tick → Job → Job
+reportedAt t j = record { task = j .task; since = j .since; due = j .due; phase = j .phase; reported = j .reported || isLate t j }
 
--- the same without a mark, from the last accepted call's tick
+-- the same test from the last accepted call's tick, without a mark on the job
 abbrev pub fallsLate : Tick → Tick → Job → Bool
 fallsLate last t j = leb (last .0) (j .due .0) && ltb (j .due .0) (t .0)

@@ -21,7 +21,7 @@ use Rattle.rules.specs.Table.{Table, priorityOf}
 use Rattle.rules.specs.Jobs.{Job, Pending, accepted, bare, newJob, released, before}
 use Rattle.rules.specs.Kernel.{dispatched, kernel}
 use Rattle.rules.specs.Calls.{View, tickOf, refusal}
-use Rattle.rules.specs.Late.{newlyLate, toldAt}
+use Rattle.rules.specs.Late.{newlyLate, reportedAt}
 
 -- ---- the list
 
@@ -121,9 +121,9 @@ viewed T b =
 abbrev pub result : Table → Board → Call → ℕ
 result T b e = refusal T (viewed T b) e
 
--- an accepted call first tells of the jobs that are newly late
+-- an accepted call first reports the newly late jobs
 abbrev pub watched : Tick → Board → Board
-watched t b = record { last = b .last; jobs = map (toldAt t) (b .jobs); ready = b .ready }
+watched t b = record { last = b .last; jobs = map (reportedAt t) (b .jobs); ready = b .ready }
 
 -- then it moves the jobs, and the kernel does what it is asked
 abbrev pub moves : Table → Board → Call → Moved
