@@ -1,6 +1,6 @@
 -- What tests tell. Assumes nothing.
 use Prim.Native.Nat.{ℕ}
-use mathlib.Core.Path.{_≡_, refl, sym, _∙_}
+use mathlib.Core.Path.{_≡_, refl, sym}
 use mathlib.Core.Logic.{_↔_, _⊎_, inl, inr}
 use mathlib.Core.Bool.{Bool, true, false, _&&_, _||_, true≢false}
 use lib.Dec.{leb}
@@ -22,10 +22,6 @@ pub and-true-both : (s t : Bool) → (s && t) ≡ true → (s ≡ true) × (t �
 and-true-both true t e = (refl, e)
 and-true-both false t e = absurd-bool (sym e)
 
-pub and-false-one : (s t : Bool) → (s && t) ≡ false → (s ≡ true → t ≡ true → ⊥)
-and-false-one true t e p q = true≢false (sym q ∙ e)
-and-false-one false t e p q = true≢false (sym p)
-
 pub and-is-true : (s t : Bool) → (s ≡ true) × (t ≡ true) → (s && t) ≡ true
 and-is-true true t b = b .1
 and-is-true false t b = b .0
@@ -36,23 +32,16 @@ or-is-true false t (inl e) = absurd-bool (sym e)
 or-is-true false t (inr e) = e
 
 -- the test of a range is the range
-pub within-true : (lo hi x : ℕ) → within lo hi x ≡ true → Within lo hi x
-within-true lo hi x e = let b = and-true-both (leb lo x) (leb x hi) e in (leb-true lo x (b .0), leb-true x hi (b .1))
-
-pub within-false : (lo hi x : ℕ) → within lo hi x ≡ false → Within lo hi x → ⊥
-within-false lo hi x e w = and-false-one (leb lo x) (leb x hi) e (le-leb lo x (w .0)) (le-leb x hi (w .1))
-
 pub within-test : (lo hi x : ℕ) → (within lo hi x ≡ true) ↔ Within lo hi x
-within-test lo hi x = (within-true lo hi x, λ w. and-is-true (leb lo x) (leb x hi) (le-leb lo x (w .0), le-leb x hi (w .1)))
+within-test lo hi x = (
+  λ e. let b = and-true-both (leb lo x) (leb x hi) e in (leb-true lo x (b .0), leb-true x hi (b .1)),
+  λ w. and-is-true (leb lo x) (leb x hi) (le-leb lo x (w .0), le-leb x hi (w .1)),
+)
 
--- from a fact that decides a test
+-- a test that can't pass fails
 pub by-not : (t : Bool) → (t ≡ true → ⊥) → t ≡ false
 by-not true h = absurd (h refl)
 by-not false h = refl
-
-pub by-no : (t : Bool) → (t ≡ false → ⊥) → t ≡ true
-by-no true h = refl
-by-no false h = absurd (h refl)
 
 -- a test decides what it is the test of
 pub decided : {P : Type 0} (t : Bool) → ((t ≡ true) ↔ P) → Dec P

@@ -8,7 +8,9 @@ use Rattle.rules.proofs.Checked.{check-exact}
 use Rattle.rules.proofs.Refusals.{refusals-exact}
 use Rattle.rules.proofs.Unchanged.{refused-unchanged}
 use Rattle.rules.proofs.Room.{no-ten}
-use Rattle.rules.proofs.Releases.{list-holds, inserts-behind, started-once}
+use Rattle.rules.proofs.Listing.{list-holds, inserts-behind}
+use Rattle.rules.proofs.Runs.{runs-released}
+use Rattle.rules.proofs.Started.{started-once}
 use Rattle.rules.proofs.Vanished.{nothing-vanishes}
 use Rattle.rules.proofs.First.{apart-priorities}
 use Rattle.rules.proofs.Reported.{late-is-cheap, reported-once, places-suffice}
@@ -27,6 +29,7 @@ the-claims =
       refused-unchanged = refused-unchanged;
       no-ten = no-ten;
       list-holds = list-holds;
+      runs-released = runs-released;
       inserts-behind = inserts-behind;
       started-once = started-once;
       nothing-vanishes = nothing-vanishes;

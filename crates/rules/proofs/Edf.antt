@@ -64,8 +64,8 @@ plain-is-edf T (j ∷ p) =
     let c = picked T j p in
     inr
     (record {
-      e = earliest T j p;
       newer = c .newer;
+      job = earliest T j p;
       older = c .older;
       among = c .among;
       runs = refl;

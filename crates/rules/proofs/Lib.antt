@@ -23,7 +23,9 @@ pub mod Broken
 pub mod Edf
 pub mod Priority
 pub mod Unchanged
-pub mod Releases
+pub mod Listing
+pub mod Runs
+pub mod Started
 pub mod Vanished
 pub mod Reported
 pub mod Counted

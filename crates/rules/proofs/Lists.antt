@@ -30,10 +30,6 @@ pub all-append {ℓ} : {A : Type ℓ} (P : A → Type 0) (l m : List A) → All 
 all-append P [] m h k = k
 all-append P (a ∷ l) m h k = (h .0, all-append P l m (h .1) k)
 
-pub all-rest {ℓ} : {A : Type ℓ} (P : A → Type 0) (l : List A) → All P l → All P (rest-of l)
-all-rest P [] h = tt
-all-rest P (a ∷ l) h = h .1
-
 -- ---- insertion
 
 pub all-insert {ℓ} : {A : Type ℓ} (P : A → Type 0) (r : A → A → Bool) (a : A) (l : List A) → P a → All P l → All P (insertBy r a l)

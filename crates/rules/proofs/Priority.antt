@@ -16,43 +16,43 @@ use Rattle.rules.proofs.Lists.{all-map, all-append}
 -- one released before those of q, of which h runs
 module _ (level : ℕ → ℕ) (n : ℕ) (q : List ℕ) (h : Highest level q) where
   -- it leaves the running to a higher one
-  goes-on : ltb (level n) (level (h .n)) ≡ true → Highest level (n ∷ q)
+  goes-on : ltb (level n) (level (h .task)) ≡ true → Highest level (n ∷ q)
   goes-on e =
       record {
-        n = h .n;
         sooner = n ∷ h .sooner;
+        task = h .task;
         later = h .later;
         among = ap (λ z. n ∷ z) (h .among);
-        runs = ap (λ z. some (higher level n z)) (h .runs) ∙ ap (λ z. some (cond z (h .n) n)) e;
-        first = (ltb-true (level n) (level (h .n)) e, h .first);
+        runs = ap (λ z. some (higher level n z)) (h .runs) ∙ ap (λ z. some (cond z (h .task) n)) e;
+        first = (ltb-true (level n) (level (h .task)) e, h .first);
         highest = h .highest;
       }
 
   -- and runs itself where that one is not higher
-  takes-over : ltb (level n) (level (h .n)) ≡ false → Highest level (n ∷ q)
+  takes-over : ltb (level n) (level (h .task)) ≡ false → Highest level (n ∷ q)
   takes-over e =
-      let l = ltb-false (level n) (level (h .n)) e in
+      let l = ltb-false (level n) (level (h .task)) e in
       record {
-        n = n;
         sooner = [];
+        task = n;
         later = q;
         among = refl;
-        runs = ap (λ z. some (higher level n z)) (h .runs) ∙ ap (λ z. some (cond z (h .n) n)) e;
+        runs = ap (λ z. some (higher level n z)) (h .runs) ∙ ap (λ z. some (cond z (h .task) n)) e;
         first = tt;
         highest =
             subst⁻¹ (All (λ k. level k ≤ level n)) (h .among)
-            (all-append (λ k. level k ≤ level n) (h .sooner) (h .n ∷ h .later) (all-map (λ k a. omega arith) (h .sooner) (h .first))
+            (all-append (λ k. level k ≤ level n) (h .sooner) (h .task ∷ h .later) (all-map (λ k a. omega arith) (h .sooner) (h .first))
             (l, all-map (λ k a. omega arith) (h .later) (h .highest)));
       }
 
 highest-of : (level : ℕ → ℕ) (n : ℕ) (q : List ℕ) → Highest level (n ∷ q)
-highest-of level n [] = record { n = n; sooner = []; later = []; among = refl; runs = refl; first = tt; highest = tt }
+highest-of level n [] = record { sooner = []; task = n; later = []; among = refl; runs = refl; first = tt; highest = tt }
 highest-of level n (m ∷ q) = go (highest-of level m q)
   where
     go : Highest level (m ∷ q) → Highest level (n ∷ m ∷ q)
-    go h = by (ltb (level n) (level (h .n))) refl
+    go h = by (ltb (level n) (level (h .task))) refl
       where
-        by : (t : Bool) → ltb (level n) (level (h .n)) ≡ t → Highest level (n ∷ m ∷ q)
+        by : (t : Bool) → ltb (level n) (level (h .task)) ≡ t → Highest level (n ∷ m ∷ q)
         by true e = goes-on level n (m ∷ q) h e
         by false e = takes-over level n (m ∷ q) h e
 

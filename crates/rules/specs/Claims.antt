@@ -1,5 +1,5 @@
 -- All that is claimed of the rules, in one place; proofs/Claims.antt proves it. Assumes nothing.
-use Rattle.rules.specs.Statement.{Demand3, Demand3-broken, PlainIsEdf, KernelIsPriority, CheckExact, RefusalsExact, RefusedUnchanged, NoTen, ListHolds, InsertsBehind, StartedOnce, NothingVanishes, ApartPriorities, LateIsCheap, ReportedOnce, PlacesSuffice, CountsAddUp}
+use Rattle.rules.specs.Statement.{Demand3, Demand3-broken, PlainIsEdf, KernelIsPriority, CheckExact, RefusalsExact, RefusedUnchanged, NoTen, ListHolds, RunsReleased, InsertsBehind, StartedOnce, NothingVanishes, ApartPriorities, LateIsCheap, ReportedOnce, PlacesSuffice, CountsAddUp}
 use Rattle.rules.specs.Cases.{Cases}
 
 pub record Claims : Type 0 where
@@ -17,6 +17,7 @@ pub record Claims : Type 0 where
   pub no-ten : NoTen
   -- the list is in order with its first job released, each job is released by exactly one kernel call, and no accepted job vanishes
   pub list-holds : ListHolds
+  pub runs-released : RunsReleased
   pub inserts-behind : InsertsBehind
   pub started-once : StartedOnce
   pub nothing-vanishes : NothingVanishes

@@ -21,7 +21,7 @@ use Rattle.rules.specs.Jobs.{Job, Pending, bare, Before, before}
 use Rattle.rules.specs.Kernel.{dispatched}
 use Rattle.rules.specs.Calls.{View, refusal}
 use Rattle.rules.specs.Late.{newlyLate, fallsLate}
-use Rattle.rules.specs.Layer.{Board, insert, fresh, result, choice, answer, inPlaces, lateTasks}
+use Rattle.rules.specs.Layer.{Board, insert, without, running, runningJob, fresh, result, choice, answer, inPlaces, lateTasks}
 use Rattle.rules.specs.Counts.{noTally}
 use Rattle.rules.specs.Plain.{Plain, start, plainRun, plainChoice, plainResult, unended}
 use Rattle.rules.specs.Run.{run, Head, freshHead, headNext, headRun}
@@ -66,30 +66,30 @@ Demand3-broken = (T : Table) (i j : ℕ) → Broken T i j → Part T i j × ((ch
 
 -- ==== the two schedulers are what their names say
 
--- of the pending jobs p, the last accepted first, e runs: none is due earlier, and those accepted before e are due later
+-- one of the pending jobs p, the last accepted first, runs: none is due earlier, and those accepted before it are due later
 pub record Edf (T : Table) (p : List Pending) : Type 0 where
-  pub e : Pending
   pub newer : List Pending
+  pub job : Pending
   pub older : List Pending
-  pub among : p ≡ newer ++ (e ∷ older)
-  pub runs : plainChoice T p ≡ Runs (e .task) (e .due)
+  pub among : p ≡ newer ++ (job ∷ older)
+  pub runs : plainChoice T p ≡ Runs (job .task) (job .due)
   pub others : unended T p ≡ newer ++ older
-  pub earliest : All (λ (j : Pending). e .due .0 ≤ j .due .0) newer
-  pub first : All (λ (j : Pending). e .due .0 < j .due .0) older
+  pub earliest : All (λ (j : Pending). job .due .0 ≤ j .due .0) newer
+  pub first : All (λ (j : Pending). job .due .0 < j .due .0) older
 
 -- the plain scheduler runs the earliest deadline, the first accepted on equal ones
 abbrev pub PlainIsEdf : Type 0
 PlainIsEdf = (T : Table) (p : List Pending) → (p ≡ []) ⊎ (Edf T p)
 
--- of the ready queue q, n runs: all that were released before it are lower, and none is higher
+-- one of the ready queue q runs: those released before it are lower, and none is higher
 pub record Highest (level : ℕ → ℕ) (q : List ℕ) : Type 0 where
-  pub n : ℕ
   pub sooner : List ℕ
+  pub task : ℕ
   pub later : List ℕ
-  pub among : q ≡ sooner ++ (n ∷ later)
-  pub runs : dispatched level q ≡ some n
-  pub first : All (λ m. level m < level n) sooner
-  pub highest : All (λ m. level m ≤ level n) later
+  pub among : q ≡ sooner ++ (task ∷ later)
+  pub runs : dispatched level q ≡ some task
+  pub first : All (λ n. level n < level task) sooner
+  pub highest : All (λ n. level n ≤ level task) later
 
 -- the kernel runs the highest priority, the first released on equal ones
 abbrev pub KernelIsPriority : Type 0
@@ -225,6 +225,23 @@ pub record Listed (T : Table) (b : Board) : Type 0 where
 
 abbrev pub ListHolds : Type 0
 ListHolds = (T : Table) (calls : List Call) → Listed T (run T fresh calls)
+
+-- a released job of the list runs, and leaves the list when it ends
+pub record Running (T : Table) (b : Board) : Type 0 where
+  pub front : List Job
+  pub job : Job
+  pub back : List Job
+  pub among : b .jobs ≡ front ++ (job ∷ back)
+  pub is-released : job .phase ≡ Released
+  pub of-task : running T b ≡ some (job .task)
+  pub runs : runningJob T b ≡ some job
+  pub others : without (running T b) (b .jobs) ≡ front ++ back
+
+-- none exactly when nothing is pending
+abbrev pub RunsReleased : Type 0
+RunsReleased =
+    (T : Table) (calls : List Call)
+    → (((run T fresh calls) .jobs ≡ []) × (runningJob T (run T fresh calls) ≡ none)) ⊎ (Running T (run T fresh calls))
 
 -- m is the list l with a new job j: behind all those that it does not go before, in front of all others
 pub record Inserted (T : Table) (j : Job) (l m : List Job) : Type 0 where
