@@ -12,7 +12,7 @@ use Rattle.rules.specs.Words.{count}
 use Rattle.rules.specs.Table.{Table, size, limitOf, deadlineOf, plus, greatest}
 use Rattle.rules.specs.Calls.{View, refusal, tickOf}
 use Rattle.rules.specs.Statement.{BadTick, rows, NoLine, AtLimit, OutOfReach, NothingRuns}
-use Rattle.rules.proofs.Refusals.{refusals-exact, None, at-zero}
+use Rattle.rules.proofs.Refusals.{view-exact, None, at-zero}
 
 pub record InTime (last t : Tick) : Type 0 where
   pub not-back : last .0 ≤ t .0
@@ -31,11 +31,11 @@ pub record Allowed-activate (T : Table) (v : View) (t : Tick) (n : ℕ) : Type 0
 
 pub record Allowed-end (v : View) (t : Tick) : Type 0 where
   pub time : InTime (v .last) t
-  pub runs : NothingRuns v → ⊥
+  pub runs : NothingRuns (v .runs) → ⊥
 
 pub record Allowed-chain (T : Table) (v : View) (t : Tick) (n : ℕ) : Type 0 where
   pub time : InTime (v .last) t
-  pub runs : NothingRuns v → ⊥
+  pub runs : NothingRuns (v .runs) → ⊥
   pub enters : MayEnter T (v .others) t n
 
 abbrev pub Allowed : Table → View → Call → Type 0
@@ -78,7 +78,7 @@ may-enter T l t n a b c = record { known = omega arith; below = omega arith; rea
 
 -- no row applies
 none-of : (T : Table) (v : View) (e : Call) → refusal T v e ≡ 0 → None (rows T v e) (Unit {0})
-none-of T v e z = at-zero (rows T v e) (Unit {0}) (refusal T v e) (refusals-exact T v e) .0 z
+none-of T v e z = at-zero (rows T v e) (Unit {0}) (refusal T v e) (view-exact T v e) .0 z
 
 pub allowed : (T : Table) (v : View) (e : Call) → refusal T v e ≡ 0 → Allowed T v e
 allowed T v (Wait t) z = in-time (v .last) t (none-of T v (Wait t) z .1)
@@ -103,5 +103,5 @@ allowed T v (Chain t n) z =
 -- an activation of which no row's condition holds is accepted
 pub accepts : (T : Table) (v : View) (t : Tick) (n : ℕ) → Allowed-activate T v t n → refusal T v (Activate t n) ≡ 0
 accepts T v t n a =
-    at-zero (rows T v (Activate t n)) (Unit {0}) (refusal T v (Activate t n)) (refusals-exact T v (Activate t n)) .1
+    at-zero (rows T v (Activate t n)) (Unit {0}) (refusal T v (Activate t n)) (view-exact T v (Activate t n)) .1
     (((((tt, not-bad (v .last) t (a .time)), λ h. omega (arith, a .enters .known)), λ h. omega (arith, a .enters .below)), λ h. omega (arith, a .room)), λ h. omega (arith, a .enters .reach))

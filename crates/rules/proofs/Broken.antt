@@ -2,7 +2,7 @@
 use Prim.Native.Nat.{ℕ, _≤_}
 use mathlib.Core.Path.{_≡_, refl, ap, sym, _∙_}
 use mathlib.Core.Bool.{true}
-use mathlib.Core.List.{[], _∷_}
+use mathlib.Core.List.{[], _∷_, map}
 use native.Mathlib.Omega.{arith}
 use borrow.Author.Tests.{le-ltb, eq-eqb, ne-eqb}
 use Rattle.rules.specs.declared.Tick.{Tick}
@@ -13,10 +13,11 @@ use Rattle.rules.specs.Words.{unless}
 use Rattle.rules.specs.Table.{Table, lineOf, InRange, plus, deadlineOf, priorityOf}
 use Rattle.rules.specs.Jobs.{accepted, newJob, Before, before}
 use Rattle.rules.specs.Calls.{View, refusal}
-use Rattle.rules.specs.Late.{reportedAt}
-use Rattle.rules.specs.Layer.{Board, fresh, watched, done, next, viewed, choice}
+use Rattle.rules.specs.Late.{markedAt}
+use Rattle.rules.specs.Layer.{Board, fresh, marked, done, next, result, viewed, choice}
 use Rattle.rules.specs.Plain.{Plain, start, plainNext, plainRun, plainChoice, plainViewed}
-use Rattle.rules.specs.Run.{run}
+use Rattle.rules.specs.declared.Answer.{Answer}
+use Rattle.rules.specs.Run.{run, answers}
 use Rattle.rules.specs.Statement.{Broken, Demand3-broken, partAt}
 use Rattle.rules.proofs.Allowed.{accepts}
 use Rattle.rules.proofs.Order.{is-before, part-small, part-order}
@@ -41,7 +42,7 @@ module _ (T : Table) (i j : ℕ) (h : Broken T i j) (t : Tick) (small : t .0 ≤
   board-2 =
       record {
         last = t;
-        jobs = newJob Released (accepted T t i) ∷ reportedAt t (newJob Released (accepted T t j)) ∷ [];
+        jobs = newJob Released (accepted T t i) ∷ markedAt t (newJob Released (accepted T t j)) ∷ [];
         ready = j ∷ i ∷ [];
       }
 
@@ -74,11 +75,15 @@ module _ (T : Table) (i j : ℕ) (h : Broken T i j) (t : Tick) (small : t .0 ≤
 
   to-board-1 : next T fresh (Activate t j) ≡ board-1
   unfolding board-1
-  to-board-1 = ap (λ z. unless z fresh (done T (watched t fresh) (Activate t j))) (first-accepted (viewed T fresh) (omega arith) refl)
+  to-board-1 = ap (λ z. unless z fresh (done T (marked t fresh) (Activate t j))) (first-accepted (viewed T fresh) (omega arith) refl)
+
+  second-of-board : result T board-1 (Activate t i) ≡ 0
+  unfolding board-1
+  second-of-board = second-accepted (viewed T board-1) (omega arith) refl
 
   to-board-2 : next T board-1 (Activate t i) ≡ board-2
   unfolding board-1 board-2
-  to-board-2 = ap (λ z. unless z board-1 (done T (watched t board-1) (Activate t i))) (second-accepted (viewed T board-1) (omega arith) refl) ∙ simp goes-before
+  to-board-2 = ap (λ z. unless z board-1 (done T (marked t board-1) (Activate t i))) second-of-board ∙ simp goes-before
 
   to-plain-1 : plainNext T start (Activate t j) ≡ plain-1
   unfolding plain-1
@@ -87,6 +92,12 @@ module _ (T : Table) (i j : ℕ) (h : Broken T i j) (t : Tick) (small : t .0 ≤
   to-plain-2 : plainNext T plain-1 (Activate t i) ≡ plain-2
   unfolding plain-1 plain-2
   to-plain-2 = ap (λ z. unless z plain-1 plain-2) (second-accepted (plainViewed T plain-1) (omega arith) refl)
+
+  both-accepted : map (λ (a : Answer). a .result) (answers T fresh (Activate t j ∷ Activate t i ∷ [])) ≡ 0 ∷ 0 ∷ []
+  both-accepted =
+      let first : result T fresh (Activate t j) ≡ 0 = first-accepted (viewed T fresh) (omega arith) refl in
+      let second : result T (next T fresh (Activate t j)) (Activate t i) ≡ 0 = ap (λ (b : Board). result T b (Activate t i)) to-board-1 ∙ second-of-board in
+      λ k. first k ∷ second k ∷ []
 
   -- the kernel goes on with the longer, which was released first and is not lower
   kernel-runs : choice T (run T fresh (Activate t j ∷ Activate t i ∷ [])) ≡ Runs j (plus t (deadlineOf T j))
@@ -105,7 +116,7 @@ module _ (T : Table) (i j : ℕ) (h : Broken T i j) (t : Tick) (small : t .0 ≤
   runs-apart e = differ cc
 
 pub demand-3-broken : Demand3-broken
-demand-3-broken T i j h = (record { kernel = k; plain = p; apart = λ e. runs-apart T i j h t small o (sym p ∙ sym e ∙ k) }, broken-is-5 T i j h)
+demand-3-broken T i j h = (record { accepted = both-accepted T i j h t small o; kernel = k; plain = p; apart = λ e. runs-apart T i j h t small o (sym p ∙ sym e ∙ k) }, broken-is-5 T i j h)
   where
     t : Tick
     t = partAt T i j

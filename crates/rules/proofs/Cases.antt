@@ -12,6 +12,7 @@ pub cases : Cases
 unfolding keyAt before refusal isPast _if_else_ _then_ refuse joined restOf numberOf
 cases =
     record {
+      printed-table = refl;
       printed-run = refl;
       printed-counts = refl;
       a-stays-delayed = refl;
@@ -19,6 +20,7 @@ cases =
       a-plain = refl;
       b-no-second-start = refl;
       c-behind-its-equal = refl;
+      d-accepted = refl;
       d-own-deadlines = refl;
       d-second-waits = refl;
       e-refused = refl;
@@ -35,7 +37,8 @@ cases =
       i-changes-nothing = refl;
       j-on-time = refl;
       j-late = refl;
-      j-counts = refl;
+      j-on-time-counts = refl;
+      j-late-counts = refl;
       k-not-shortest = refl;
       k-cut-off = refl;
       k-127 = refl;

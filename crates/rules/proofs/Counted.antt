@@ -1,8 +1,8 @@
 -- The kept tallies are what the accepted calls add up to. Assumes nothing.
 use Prim.Native.Nat.{ℕ, zero, suc, _+_, _<_, _≤_, min, max}
-use mathlib.Core.Path.{_≡_, refl, sym, subst}
+use mathlib.Core.Path.{_≡_, refl, ap, sym, _∙_, subst}
 use mathlib.Core.Bool.{Bool, true, false, cond}
-use mathlib.Core.List.{List, [], _∷_, _++_}
+use mathlib.Core.List.{List, [], _∷_, _++_, map}
 use mathlib.Core.Option.{Option, some, none}
 use lib.ListN.{length, getD, getD-replicate}
 use lib.Seq.{lt-length-set, getD-set-same, getD-set-other}
@@ -12,16 +12,18 @@ use borrow.Author.Tests.{ltb-true, ltb-false, eqb-true, eqb-false}
 use Rattle.rules.specs.declared.Tick.{Tick}
 use Rattle.rules.specs.declared.Call.{Call}
 use Rattle.rules.specs.declared.Tally.{Tally}
-use Rattle.rules.specs.Words.{unless, count}
+use Rattle.rules.specs.Words.{unless, countBy, count}
 use Rattle.rules.specs.Table.{Table}
-use Rattle.rules.specs.Jobs.{Job, bare}
+use Rattle.rules.specs.Jobs.{Job, Pending, bare}
 use Rattle.rules.specs.Late.{newlyLate}
 use Rattle.rules.specs.Calls.{tickOf}
-use Rattle.rules.specs.Layer.{Board, result, tasks, lateTasks}
+use Rattle.rules.specs.Layer.{fresh, Board, result, tasks, lateTasks}
 use Rattle.rules.specs.Counts.{noTally, noTallies, most, up, lateMore, endedMore, onTask, withLate, responseOf, withEnded, ending, tallied}
 use Rattle.rules.specs.Run.{Head, freshHead, headNext, headRun}
+use Rattle.rules.proofs.Lists.{count-map}
+use Rattle.rules.proofs.Along.{balance}
 use Rattle.rules.specs.Statement.{addedUp, CountsAddUp}
-use Rattle.rules.specs.History.{along, Ended, endedAt, endedBy, endings, endedOf, lates, greatestOf}
+use Rattle.rules.specs.History.{along, Ended, endedAt, endedBy, endings, endedOf, greatestOf, reportedBy}
 
 -- ---- one count
 
@@ -140,6 +142,23 @@ module _ (n : ℕ) (w : Tally) where
       let k = headNext T h e in
       calls-come T k es (call-comes T (h .board) e (along T (lateTasks T) (k .board) es) (along T (endedBy T) (k .board) es) (h .tallies) d)
 
+-- ---- the late tasks of an answer are those of the jobs that it reports
+
+late-count : (T : Table) (n : ℕ) (b : Board) (e : Call) → count n (lateTasks T b e) ≡ countBy (λ (j : Pending). eqb n (j .task)) (reportedBy T b e)
+late-count T n b e = go (result T b e)
+  where
+    late : List Job
+    late = newlyLate (tickOf e) (b .jobs)
+
+    go : (k : ℕ) → count n (unless k [] (tasks late)) ≡ countBy (λ (j : Pending). eqb n (j .task)) (unless k [] (map bare late))
+    go zero = count-map (eqb n) (λ (j : Job). j .task) late ∙ sym (count-map (λ (j : Pending). eqb n (j .task)) bare late)
+    go (suc k) = refl
+
+lates-count : (T : Table) (n : ℕ) (calls : List Call) → count n (along T (lateTasks T) fresh calls) ≡ countBy (λ (j : Pending). eqb n (j .task)) (along T (reportedBy T) fresh calls)
+lates-count T n calls =
+    let h = balance T (λ b. Unit {0}) (λ b i e. tt) (lateTasks T) (eqb n) (reportedBy T) (λ (j : Pending). eqb n (j .task)) (λ b. 0) (λ b i e. ap (λ z. z + 0) (late-count T n b e)) fresh tt calls in
+    omega arith
+
 -- at the start every tally is 0, and all is to come
 pub counts-add-up : CountsAddUp
 counts-add-up T calls n below = all-came w (of-task n ((headRun T freshHead calls) .tallies)) ((calls-come n w T freshHead calls start) .awaits)
@@ -148,7 +167,9 @@ counts-add-up T calls n below = all-came w (of-task n ((headRun T freshHead call
     w = addedUp T calls n
 
     to-come : Tally → Type 0
-    to-come = Awaits n w (lates T calls) (endings T calls)
+    to-come = Awaits n w (along T (lateTasks T) fresh calls) (endings T calls)
 
-    start : Due n w (lates T calls) (endings T calls) noTallies
-    start = record { known = below; awaits = subst to-come (sym (getD-replicate 32 n noTally noTally below)) (omega arith) }
+    start : Due n w (along T (lateTasks T) fresh calls) (endings T calls) noTallies
+    start =
+        let h = lates-count T n calls in
+        record { known = below; awaits = subst to-come (sym (getD-replicate 32 n noTally noTally below)) (omega arith) }

@@ -2,30 +2,26 @@
 use Prim.Native.Nat.{ℕ, zero, suc}
 use mathlib.Core.Path.{_≡_, refl, ap, sym, _∙_, subst}
 use mathlib.Core.Logic.{_↔_}
-use mathlib.Core.Bool.{Bool, true, false}
 use mathlib.Core.List.{List, [], _∷_, map}
 use lib.ListN.{length}
 use lib.Dec.{eqb}
 use Rattle.rules.specs.declared.Tick.{Tick}
-use Rattle.rules.specs.declared.Phase.{Phase}
-use Rattle.rules.specs.declared.Phase.the-variants.{Delayed, Released}
 use Rattle.rules.specs.declared.Call.{Call}
 use Rattle.rules.specs.declared.Call.the-variants.{Wait, Activate, Terminate, Chain}
 use Rattle.rules.specs.declared.Choice.the-variants.{Idle}
 use Rattle.rules.specs.Words.{unless, count, insertBy}
 use Rattle.rules.specs.Table.{Table, Keeps, priorityOf}
-use Rattle.rules.specs.Jobs.{Job, Pending, accepted, bare, newJob, before}
+use Rattle.rules.specs.Jobs.{Job, Pending, accepted, bare, before}
 use Rattle.rules.specs.Kernel.{dispatched}
 use Rattle.rules.specs.Calls.{View, refusal, tickOf}
-use Rattle.rules.specs.Late.{reportedAt}
-use Rattle.rules.specs.Layer.{Board, fresh, insert, isFirst, without, settled, settledBy, entered, moves, watched, done, next, result, viewed, shown, choice, running, runningJob, tasks}
-use Rattle.rules.specs.Plain.{Plain, start, unended, plainRuns, plainTasks, plainViewed, plainResult, plainMoved, plainNext, plainRun, plainChoice}
+use Rattle.rules.specs.Layer.{Board, fresh, without, moves, marked, done, next, result, viewed, shown, choice, running, runningJob, tasks}
+use Rattle.rules.specs.Plain.{Plain, start, plainOthers, plainRuns, plainTasks, plainViewed, plainResult, plainMoved, plainNext, plainRun, plainChoice}
 use Rattle.rules.specs.Run.{run}
-use Rattle.rules.specs.Statement.{Agree, Demand3}
-use Rattle.rules.proofs.Lists.{rest-of, map-insert, count-map}
-use Rattle.rules.proofs.Moves.{without-reported}
+use Rattle.rules.specs.Statement.{Agree, Demand3, Demand3-answers}
+use Rattle.rules.proofs.Lists.{rest-of, count-map}
+use Rattle.rules.proofs.Bare.{tasks-bare, bare-after, moved-bare}
 use Rattle.rules.proofs.Order.{Higher, ranks}
-use Rattle.rules.proofs.Sorted.{sorted, runs-of, task-of, choice-sorted, unended-sorted, runs-sorted, count-sorted, length-sorted}
+use Rattle.rules.proofs.Sorted.{sorted, runs-of, task-of, choice-sorted, others-sorted, runs-sorted, count-sorted, length-sorted}
 use Rattle.rules.proofs.Invariant.{Good}
 use Rattle.rules.proofs.Step.{done-good}
 use Rattle.rules.proofs.First.{first-of, first-task, top-first, leaves, runs-first}
@@ -56,10 +52,6 @@ module _ (T : Table) (v w : View) (a : v .last ≡ w .last) where
 
 -- ---- a list of jobs and what the plain scheduler knows of them
 
-tasks-bare : (l : List Job) → tasks l ≡ plainTasks (map bare l)
-tasks-bare [] = refl
-tasks-bare (j ∷ l) = ap (λ z. j .task ∷ z) (tasks-bare l)
-
 first-bare : (l : List Job) → first-task l ≡ task-of (map bare l)
 first-bare [] = refl
 first-bare (j ∷ l) = refl
@@ -76,22 +68,6 @@ length-tasks : (p : List Pending) → length (plainTasks p) ≡ length p
 length-tasks [] = refl
 length-tasks (j ∷ p) = ap suc (length-tasks p)
 
-reported-bare : (t : Tick) (l : List Job) → map bare (map (reportedAt t) l) ≡ map bare l
-reported-bare t [] = refl
-reported-bare t (j ∷ l) = ap (λ z. bare j ∷ z) (reported-bare t l)
-
-settled-bare : (l : List Job) → map bare ((settled l) .jobs) ≡ map bare l
-settled-bare [] = refl
-settled-bare (j ∷ l) = go (j .phase)
-  where
-    go : (s : Phase) → map bare ((settledBy s j l) .jobs) ≡ map bare (j ∷ l)
-    go Delayed = refl
-    go Released = refl
-
-entered-bare : (T : Table) (j : Pending) (l : List Job) (f : Bool) → map bare ((entered (before T) j l f) .jobs) ≡ insertBy (before T) j (map bare l)
-entered-bare T j l true = map-insert bare (before T) (newJob Released j) l
-entered-bare T j l false = map-insert bare (before T) (newJob Delayed j) l
-
 count-tasks : (T : Table) (n : ℕ) (l : List Job) (p : List Pending) → map bare l ≡ sorted T p → count n (tasks l) ≡ count n (plainTasks p)
 count-tasks T n l p e =
     ap (count n) (tasks-bare l ∙ ap plainTasks e) ∙ count-map (eqb n) (λ (j : Pending). j .task) (sorted T p)
@@ -107,16 +83,9 @@ module _ (T : Table) (keeps : Keeps T) (b : Board) (p : Plain) (g : Good T (High
   runs-alike : running T b ≡ plainRuns T (p .pending)
   runs-alike = top-first T keeps (b .last) (b .jobs) (b .ready) g (running T b) top ∙ first-bare (b .jobs) ∙ ap task-of (r .list) ∙ sym (runs-sorted T (p .pending))
 
-  rest-list : map bare (without (running T b) (b .jobs)) ≡ sorted T (unended T (p .pending))
+  rest-list : map bare (without (running T b) (b .jobs)) ≡ sorted T (plainOthers T (p .pending))
   rest-list =
-      ap (map bare) (leaves T keeps (b .last) (b .jobs) (b .ready) g (running T b) top) ∙ rest-bare (b .jobs) ∙ ap rest-of (r .list) ∙ sym (unended-sorted T (p .pending))
-
-  -- the same once late jobs were reported
-  reported-list : (t : Tick) → map bare (map (reportedAt t) (b .jobs)) ≡ sorted T (p .pending)
-  reported-list t = reported-bare t (b .jobs) ∙ r .list
-
-  reported-rest : (t : Tick) → map bare (without (running T b) (map (reportedAt t) (b .jobs))) ≡ sorted T (unended T (p .pending))
-  reported-rest t = ap (map bare) (without-reported t (running T b) (b .jobs)) ∙ reported-bare t (without (running T b) (b .jobs)) ∙ rest-list
+      ap (map bare) (leaves T keeps (b .last) (b .jobs) (b .ready) g (running T b) top) ∙ rest-bare (b .jobs) ∙ ap rest-of (r .list) ∙ sym (others-sorted T (p .pending))
 
   pub results-alike : (e : Call) → result T b e ≡ plainResult T p e
   results-alike (Wait t) = alike-wait T (viewed T b) (plainViewed T p) (r .last) t
@@ -126,18 +95,16 @@ module _ (T : Table) (keeps : Keeps T) (b : Board) (p : Plain) (g : Good T (High
   results-alike (Terminate t) = alike-end T (viewed T b) (plainViewed T p) (r .last) t runs-alike
   results-alike (Chain t n) =
       alike-chain T (viewed T b) (plainViewed T p) (r .last) t n runs-alike
-      (count-tasks T n (without (running T b) (b .jobs)) (unended T (p .pending)) rest-list)
+      (count-tasks T n (without (running T b) (b .jobs)) (plainOthers T (p .pending)) rest-list)
 
-  moved-list : (e : Call) → map bare ((moves T (watched (tickOf e) b) e) .jobs) ≡ sorted T (plainMoved T (p .pending) e)
-  moved-list (Wait t) = reported-list t
-  moved-list (Activate t n) =
-      entered-bare T (accepted T t n) (map (reportedAt t) (b .jobs)) (isFirst (before T) (accepted T t n) (map (reportedAt t) (b .jobs)))
-      ∙ ap (insertBy (before T) (accepted T t n)) (reported-list t)
-  moved-list (Terminate t) = settled-bare (without (running T b) (map (reportedAt t) (b .jobs))) ∙ reported-rest t
-  moved-list (Chain t n) =
-      settled-bare (insert (before T) (newJob Delayed (accepted T t n)) (without (running T b) (map (reportedAt t) (b .jobs))))
-      ∙ map-insert bare (before T) (newJob Delayed (accepted T t n)) (without (running T b) (map (reportedAt t) (b .jobs)))
-      ∙ ap (insertBy (before T) (accepted T t n)) (reported-rest t)
+  moved-list : (e : Call) → map bare ((moves T (marked (tickOf e) b) e) .jobs) ≡ sorted T (plainMoved T (p .pending) e)
+  moved-list e = moved-bare T (running T b) (b .jobs) e ∙ by e
+    where
+      by : (e : Call) → bare-after T (running T b) (b .jobs) e ≡ sorted T (plainMoved T (p .pending) e)
+      by (Wait t) = r .list
+      by (Activate t n) = ap (insertBy (before T) (accepted T t n)) (r .list)
+      by (Terminate t) = rest-list
+      by (Chain t n) = ap (insertBy (before T) (accepted T t n)) rest-list
 
   pub runs-job : runningJob T b ≡ first-of (b .jobs)
   runs-job = runs-first T keeps (b .last) (b .jobs) (b .ready) g (running T b) top
@@ -151,7 +118,7 @@ pub record Both (T : Table) (b : Board) (p : Plain) : Type 0 where
   pub related : Related T b p
 
 next-by : (T : Table) → Keeps T → (b : Board) (p : Plain) → Both T b p → (e : Call) (k : ℕ) → result T b e ≡ k
-    → Both T (unless k b (done T (watched (tickOf e) b) e)) (unless k p (record { last = tickOf e; pending = plainMoved T (p .pending) e }))
+    → Both T (unless k b (done T (marked (tickOf e) b) e)) (unless k p (record { last = tickOf e; pending = plainMoved T (p .pending) e }))
 next-by T keeps b p h e zero z =
     record { good = done-good T (Higher T) (ranks T keeps) b (h .good) e z; related = record { last = refl; list = moved-list T keeps b p (h .good) (h .related) e } }
 next-by T keeps b p h e (suc k) z = h
@@ -182,3 +149,13 @@ agrees T keeps b p h =
 
 pub demand-3 : Demand3
 demand-3 T keeps calls = agrees T keeps (run T fresh calls) (plainRun T start calls) (run-both T keeps fresh start (fresh-both T) calls)
+
+pub demand-3-answers : Demand3-answers
+demand-3-answers T keeps calls e =
+    let h = run-both T keeps fresh start (fresh-both T) calls in
+    let b = run T fresh calls in
+    let p = plainRun T start calls in
+    record {
+      result = results-alike T keeps b p (h .good) (h .related) e;
+      running = agrees T keeps (next T b e) (plainNext T p e) (next-both T keeps b p h e) .same;
+    }

@@ -59,7 +59,7 @@ picked T j (k ∷ p) = go (before T j (earliest T k p)) refl (picked T k p)
 
 -- the order is by deadline
 pub plain-is-edf : PlainIsEdf
-plain-is-edf T [] = inl refl
+plain-is-edf T [] = inl (refl, refl)
 plain-is-edf T (j ∷ p) =
     let c = picked T j p in
     inr
@@ -69,6 +69,7 @@ plain-is-edf T (j ∷ p) =
       older = c .older;
       among = c .among;
       runs = refl;
+      of-task = refl;
       others = c .others;
       earliest = all-map (λ k n. not-earlier T k (earliest T j p) n) (c .newer) (c .not-sooner);
       first = all-map (λ k n. due-later T (earliest T j p) k n) (c .older) (c .first);

@@ -14,8 +14,8 @@ use Rattle.rules.specs.declared.Phase.the-variants.{Delayed, Released}
 use Rattle.rules.specs.Words.{All, Pairs}
 use Rattle.rules.specs.Table.{Table}
 use Rattle.rules.specs.Jobs.{Job, Pending, bare, newJob, before}
-use Rattle.rules.specs.Kernel.{remove, ended}
-use Rattle.rules.specs.Late.{reportedAt}
+use Rattle.rules.specs.Kernel.{remove, dequeued}
+use Rattle.rules.specs.Late.{markedAt}
 use Rattle.rules.specs.Layer.{Board, insert, isFirst, isReleased, without}
 use Rattle.rules.specs.Statement.{pushed, releasedOf, FirstReleased}
 use Rattle.rules.proofs.Lists.{all-map, all-over, pairs-over, all-insert}
@@ -57,26 +57,26 @@ Good T P b = GoodOf T P (b .last) (b .jobs) (b .ready)
 
 -- ---- time moves, and late jobs are reported: nothing else changes
 
-released-reported : (t : Tick) (l : List Job) → releasedOf (map (reportedAt t) l) ≡ releasedOf l
+released-reported : (t : Tick) (l : List Job) → releasedOf (map (markedAt t) l) ≡ releasedOf l
 released-reported t [] = refl
 released-reported t (j ∷ l) = ap (pushed (j .phase) (j .task)) (released-reported t l)
 
-first-reported : (t : Tick) (l : List Job) → FirstReleased l → FirstReleased (map (reportedAt t) l)
+first-reported : (t : Tick) (l : List Job) → FirstReleased l → FirstReleased (map (markedAt t) l)
 first-reported t [] h = h
 first-reported t (j ∷ l) h = h
 
-pub watched-good : (T : Table) (P : ℕ → ℕ → Type 0) (s t : Tick) → s .0 ≤ t .0 → (l : List Job) (q : List ℕ) → GoodOf T P s l q → GoodOf T P t (map (reportedAt t) l) q
-watched-good T P s t h l q g =
+pub marked-good : (T : Table) (P : ℕ → ℕ → Type 0) (s t : Tick) → s .0 ≤ t .0 → (l : List Job) (q : List ℕ) → GoodOf T P s l q → GoodOf T P t (map (markedAt t) l) q
+marked-good T P s t h l q g =
     record {
-      sound = all-over (Sound T s) (Sound T t) (reportedAt t) later l (g .sound);
+      sound = all-over (Sound T s) (Sound T t) (markedAt t) later l (g .sound);
       lined = record {
-        ordered = pairs-over (λ j k. Ahead T P (bare j) k) (λ j k. Ahead T P (bare j) k) (reportedAt t) (λ j k a. record { order = a .order; over = a .over }) l (g .lined .ordered);
+        ordered = pairs-over (λ j k. Ahead T P (bare j) k) (λ j k. Ahead T P (bare j) k) (markedAt t) (λ j k a. record { order = a .order; over = a .over }) l (g .lined .ordered);
         first = first-reported t l (g .lined .first);
         queue = g .lined .queue ∙ sym (released-reported t l);
       };
     }
   where
-    later : (j : Job) → Sound T s j → Sound T t (reportedAt t j)
+    later : (j : Job) → Sound T s j → Sound T t (markedAt t j)
     later j m = record { made = record { known = m .made .known; dues = m .made .dues; past = omega (arith, m .made .past) } }
 
 -- ---- the running job leaves the list and the queue
@@ -113,7 +113,7 @@ module _ (T : Table) (P : ℕ → ℕ → Type 0) (rank : Ranking T P) where
   pub behind : (j : Pending) (l : List Job) → All (Ahead T P j) l → All (P (j .task)) (releasedOf l)
   behind j l h = all-released (P (j .task)) l (all-map (λ k a. a .over) l h)
 
-  pub ends : (r : Option ℕ) (l : List Job) → Ordered T P l → ended r (releasedOf l) ≡ releasedOf (without r l)
+  pub ends : (r : Option ℕ) (l : List Job) → Ordered T P l → dequeued r (releasedOf l) ≡ releasedOf (without r l)
   ends none l o = refl
   ends (some n) [] o = refl
   ends (some n) (j ∷ l) o = go (j .phase) (eqb n (j .task)) refl refl (ends (some n) l (o .1))

@@ -11,6 +11,7 @@ pub mod Refusals
 pub mod Allowed
 -- what every call keeps
 pub mod Moves
+pub mod Bare
 pub mod Invariant
 pub mod Step
 pub mod Room
@@ -25,9 +26,12 @@ pub mod Priority
 pub mod Unchanged
 pub mod Listing
 pub mod Runs
+pub mod Called
 pub mod Started
 pub mod Vanished
+pub mod Marks
 pub mod Reported
+pub mod Places
 pub mod Counted
 pub mod Cases
 pub mod Claims

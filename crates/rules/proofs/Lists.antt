@@ -1,5 +1,5 @@
 -- Facts on lists. Assumes nothing.
-use Prim.Native.Nat.{ℕ, suc, _+_}
+use Prim.Native.Nat.{ℕ, suc, _+_, _≤_}
 use mathlib.Core.Path.{_≡_, refl, ap, _∙_}
 use mathlib.Core.Bool.{Bool, true, false, cond, _&&_}
 use mathlib.Core.List.{List, [], _∷_, _++_, map}
@@ -108,3 +108,19 @@ count-only f g (a ∷ l) = go (g a) (count-only f g l)
 pub count-split {ℓ} : {A : Type ℓ} (f g h : A → Bool) → ((a : A) → cond (f a) 1 0 + cond (g a) 1 0 ≡ cond (h a) 1 0) → (l : List A) → countBy f l + countBy g l ≡ countBy h l
 count-split f g h e [] = refl
 count-split f g h e (a ∷ l) = omega (arith, e a, count-split f g h e l, count-front f a l, count-front g a l, count-front h a l)
+
+-- two tests that agree on each element count alike
+pub count-alike {ℓ} : {A : Type ℓ} (f g : A → Bool) (l : List A) → All (λ (a : A). f a ≡ g a) l → countBy f l ≡ countBy g l
+count-alike f g [] h = refl
+count-alike f g (a ∷ l) h = λ i. cond (h .0 i) (suc (count-alike f g l (h .1) i)) (count-alike f g l (h .1) i)
+
+-- fewer pass a second test too
+pub count-both {ℓ} : {A : Type ℓ} (f g : A → Bool) (l : List A) → countBy (λ a. g a && f a) l ≤ countBy f l
+count-both f g [] = omega arith
+count-both f g (a ∷ l) = go (g a) (f a) (count-both f g l)
+  where
+    go : (s t : Bool) → countBy (λ a. g a && f a) l ≤ countBy f l → cond (s && t) (suc (countBy (λ a. g a && f a) l)) (countBy (λ a. g a && f a) l) ≤ cond t (suc (countBy f l)) (countBy f l)
+    go true true h = omega arith
+    go true false h = h
+    go false true h = omega arith
+    go false false h = h

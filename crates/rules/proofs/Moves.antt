@@ -12,8 +12,11 @@ use Rattle.rules.specs.declared.Call.{Call}
 use Rattle.rules.specs.declared.Call.the-variants.{Wait, Activate, Terminate, Chain}
 use Rattle.rules.specs.Words.{countBy, All, Pairs}
 use Rattle.rules.specs.Jobs.{Job, Pending, bare, newJob, released}
-use Rattle.rules.specs.Late.{reportedAt}
-use Rattle.rules.specs.Layer.{Order, insert, isFirst, isOf, runningIn, without, settled, settledBy, entered, moved}
+use Rattle.rules.specs.Late.{markedAt}
+use Rattle.rules.specs.Layer.{Board, running, Order, insert, isFirst, isOf, runningIn, without, settled, settledBy, entered, moved}
+use Rattle.rules.specs.Table.{Table}
+use Rattle.rules.specs.Calls.{tickOf}
+use Rattle.rules.specs.Counts.{ending}
 use Rattle.rules.specs.History.{makes}
 use Rattle.rules.proofs.Lists.{all-insert, count-insert, count-front}
 
@@ -60,15 +63,35 @@ pub count-without : (g : Job → Bool) (r : Option ℕ) (l : List Job) → count
 count-without g r l = omega (arith, count-leaves g r l)
 
 -- it is the same job whether late ones were reported or not
-pub without-reported : (t : Tick) (r : Option ℕ) (l : List Job) → without r (map (reportedAt t) l) ≡ map (reportedAt t) (without r l)
+pub without-reported : (t : Tick) (r : Option ℕ) (l : List Job) → without r (map (markedAt t) l) ≡ map (markedAt t) (without r l)
 without-reported t none l = refl
 without-reported t (some n) [] = refl
 without-reported t (some n) (j ∷ l) = go (isOf n j) (without-reported t (some n) l)
   where
-    go : (s : Bool) → without (some n) (map (reportedAt t) l) ≡ map (reportedAt t) (without (some n) l)
-        → cond s (map (reportedAt t) l) (reportedAt t j ∷ without (some n) (map (reportedAt t) l)) ≡ map (reportedAt t) (cond s l (j ∷ without (some n) l))
+    go : (s : Bool) → without (some n) (map (markedAt t) l) ≡ map (markedAt t) (without (some n) l)
+        → cond s (map (markedAt t) l) (markedAt t j ∷ without (some n) (map (markedAt t) l)) ≡ map (markedAt t) (cond s l (j ∷ without (some n) l))
     go true ih = refl
-    go false ih = ap (λ z. reportedAt t j ∷ z) ih
+    go false ih = ap (λ z. markedAt t j ∷ z) ih
+
+-- so is what is found
+pub found-marked : (t : Tick) (r : Option ℕ) (l : List Job) → found (runningIn r (map (markedAt t) l)) ≡ map (markedAt t) (found (runningIn r l))
+found-marked t none l = refl
+found-marked t (some n) [] = refl
+found-marked t (some n) (j ∷ l) = go (isOf n j) (found-marked t (some n) l)
+  where
+    go : (s : Bool) → found (runningIn (some n) (map (markedAt t) l)) ≡ map (markedAt t) (found (runningIn (some n) l))
+        → found (cond s (some (markedAt t j)) (runningIn (some n) (map (markedAt t) l))) ≡ map (markedAt t) (found (cond s (some j) (runningIn (some n) l)))
+    go true ih = refl
+    go false ih = ih
+
+pub all-found : (Q : Job → Type 0) (r : Option ℕ) (l : List Job) → All Q l → All Q (found (runningIn r l))
+all-found Q none l h = tt
+all-found Q (some n) [] h = tt
+all-found Q (some n) (j ∷ l) h = go (isOf n j) (all-found Q (some n) l (h .1))
+  where
+    go : (s : Bool) → All Q (found (runningIn (some n) l)) → All Q (found (cond s (some j) (runningIn (some n) l)))
+    go true ih = (h .0, tt)
+    go false ih = ih
 
 -- ---- what stays
 
@@ -77,6 +100,19 @@ staying r l (Wait t) = l
 staying r l (Activate t n) = l
 staying r l (Terminate t) = without r l
 staying r l (Chain t n) = without r l
+
+leaves : (g : Job → Bool) (t : Tick) (r : Option ℕ) (l : List Job)
+    → countBy g (map (markedAt t) (found (runningIn r l))) + countBy g (without r (map (markedAt t) l)) ≡ countBy g (map (markedAt t) l)
+leaves g t r l = ap (λ z. countBy g z + countBy g (without r (map (markedAt t) l))) (sym (found-marked t r l)) ∙ count-leaves g r (map (markedAt t) l)
+
+-- what a call ends and what stays are all that were there
+pub count-stays : (g : Job → Bool) (T : Table) (b : Board) (e : Call)
+    → countBy g (map (markedAt (tickOf e)) (found (ending T b e))) + countBy g (staying (running T b) (map (markedAt (tickOf e)) (b .jobs)) e)
+    ≡ countBy g (map (markedAt (tickOf e)) (b .jobs))
+count-stays g T b (Wait t) = omega arith
+count-stays g T b (Activate t n) = omega arith
+count-stays g T b (Terminate t) = leaves g t (running T b) (b .jobs)
+count-stays g T b (Chain t n) = leaves g t (running T b) (b .jobs)
 
 -- a fact of each job holds after the call, if it holds of what stays and comes and does not look at the phase
 module _ (Q : Job → Type 0) (blind : (j : Job) → Q j → Q (released j)) where

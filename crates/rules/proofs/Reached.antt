@@ -5,16 +5,17 @@ use mathlib.Core.List.{List, [], _∷_, _++_}
 use lib.ListN.{length}
 use Rattle.rules.specs.declared.Call.{Call}
 use Rattle.rules.specs.Words.{All}
-use Rattle.rules.specs.Table.{Table, Keeps}
+use Rattle.rules.specs.Table.{Table, Keeps, Verdict, fine, check}
 use Rattle.rules.specs.Layer.{Board, fresh, without, running, runningJob}
 use Rattle.rules.specs.Run.{run, Head, freshHead, headNext, headRun, Reached}
 use Rattle.rules.proofs.Lists.{rest-of}
+use Rattle.rules.proofs.Checked.{keeps-found}
 use Rattle.rules.proofs.Order.{Higher, ranks}
 use Rattle.rules.proofs.Invariant.{Good}
 use Rattle.rules.proofs.Step.{fresh-good}
 use Rattle.rules.proofs.First.{first-of, first-task, top-first, leaves, runs-first}
 use Rattle.rules.proofs.Room.{room-for-all}
-use Rattle.rules.proofs.Reported.{Marked, fresh-marked}
+use Rattle.rules.proofs.Marks.{Marked, fresh-marked}
 
 pub run-last : (T : Table) (h : Head) (es : List Call) (e : Call) → headRun T h (es ++ (e ∷ [])) ≡ headNext T (headRun T h es) e
 run-last T h [] e = refl
@@ -26,13 +27,16 @@ head-board T h [] = refl
 head-board T h (e ∷ es) = head-board T (headNext T h e) es
 
 -- a fresh state is reached, and what a call leaves is
-pub reached-fresh : (T : Table) → Reached T freshHead
-reached-fresh T = record { calls = []; is = refl }
+pub reached-fresh : (T : Table) → check T ≡ fine → Reached T freshHead
+reached-fresh T a = record { accepted = a; calls = []; is = refl }
 
 pub reached-next : (T : Table) (h : Head) → Reached T h → (e : Call) → Reached T (headNext T h e)
-reached-next T h r e = record { calls = r .calls ++ (e ∷ []); is = ap (λ z. headNext T z e) (r .is) ∙ sym (run-last T freshHead (r .calls) e) }
+reached-next T h r e = record { accepted = r .accepted; calls = r .calls ++ (e ∷ []); is = ap (λ z. headNext T z e) (r .is) ∙ sym (run-last T freshHead (r .calls) e) }
 
-module _ (T : Table) (keeps : Keeps T) (h : Head) (r : Reached T h) where
+module _ (T : Table) (h : Head) (r : Reached T h) where
+  keeps : Keeps T
+  keeps = keeps-found T (ap (λ (v : Verdict). v .number) (r .accepted))
+
   reached-board : h .board ≡ run T fresh (r .calls)
   reached-board = ap (λ (z : Head). z .board) (r .is) ∙ head-board T freshHead (r .calls)
 

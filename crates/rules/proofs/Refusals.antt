@@ -15,7 +15,9 @@ use Rattle.rules.specs.declared.Call.the-variants.{Wait, Activate, Termi
 use Rattle.rules.specs.Words.{_if_else_, count}
 use Rattle.rules.specs.Table.{Table, size, limitOf, deadlineOf, plus, greatest}
 use Rattle.rules.specs.Calls.{View, refusal, badTick, isIdle}
-use Rattle.rules.specs.Statement.{Row, _when_, rows, Exact, BadTick, NothingRuns, RefusalsExact}
+use Rattle.rules.specs.Statement.{Row, _when_, rows, Exact, BadTick, NothingRuns, RefusalsExact, PlainRefusalsExact}
+use Rattle.rules.specs.Layer.{viewed}
+use Rattle.rules.specs.Plain.{plainViewed}
 use Rattle.rules.proofs.Bools.{or-true-one, or-false-both, absurd-bool}
 
 -- ---- rows with tests that decide them
@@ -91,7 +93,7 @@ on-tick last t =
     no e (inr h) = let g = ltb-false (greatest .0) (t .0) (e .1) in omega arith
 
 on-idle : View → Tested
-on-idle v = record { number = 2; test = isIdle (v .runs); condition = NothingRuns v; yes = yes (v .runs); no = no (v .runs) }
+on-idle v = record { number = 2; test = isIdle (v .runs); condition = NothingRuns (v .runs); yes = yes (v .runs); no = no (v .runs) }
   where
     yes : (r : Option ℕ) → isIdle r ≡ true → r ≡ none
     yes none e = refl
@@ -129,12 +131,19 @@ tested T v (Chain t n) =
     ∷ above 9 (greatest .0) ((plus t (deadlineOf T n)) .0)
     ∷ []
 
-pub refusals-exact : RefusalsExact
+pub view-exact : (T : Table) (v : View) (e : Call) → Exact (rows T v e) (Unit {0}) (refusal T v e)
 unfolding refusal tested on-tick on-idle at-or-above above
-refusals-exact T v (Wait t) = exact-of (tested T v (Wait t)) (Unit {0}) tt (omega arith)
-refusals-exact T v (Activate t n) = exact-of (tested T v (Activate t n)) (Unit {0}) tt (omega arith)
-refusals-exact T v (Terminate t) = exact-of (tested T v (Terminate t)) (Unit {0}) tt (omega arith)
-refusals-exact T v (Chain t n) = exact-of (tested T v (Chain t n)) (Unit {0}) tt (omega arith)
+view-exact T v (Wait t) = exact-of (tested T v (Wait t)) (Unit {0}) tt (omega arith)
+view-exact T v (Activate t n) = exact-of (tested T v (Activate t n)) (Unit {0}) tt (omega arith)
+view-exact T v (Terminate t) = exact-of (tested T v (Terminate t)) (Unit {0}) tt (omega arith)
+view-exact T v (Chain t n) = exact-of (tested T v (Chain t n)) (Unit {0}) tt (omega arith)
+
+-- of the layer and of the plain scheduler: what each looks at
+pub refusals-exact : RefusalsExact
+refusals-exact T b e = view-exact T (viewed T b) e
+
+pub plain-refusals-exact : PlainRefusalsExact
+plain-refusals-exact T p e = view-exact T (plainViewed T p) e
 
 -- a number that is not in the rows of a call is never its result
 pub not-given : (T : Table) (v : View) (e : Call) (k : ℕ) → Apart k (rows T v e) → k ≡ refusal T v e → ⊥

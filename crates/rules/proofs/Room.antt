@@ -17,15 +17,15 @@ use Rattle.rules.specs.Words.{unless, countBy, count}
 use Rattle.rules.specs.Table.{Table, size, noLine, limits, limitOf, Passes}
 use Rattle.rules.specs.Jobs.{Job, Pending, accepted, newJob, before}
 use Rattle.rules.specs.Calls.{tickOf}
-use Rattle.rules.specs.Late.{reportedAt}
-use Rattle.rules.specs.Layer.{Board, fresh, next, done, watched, result, viewed, without, moved, tasks, running}
+use Rattle.rules.specs.Late.{markedAt}
+use Rattle.rules.specs.Layer.{Board, fresh, next, done, marked, result, viewed, without, moved, tasks, running}
 use Rattle.rules.specs.Run.{run}
 use Rattle.rules.specs.Statement.{NoTen}
 use Rattle.rules.specs.History.{makes}
 use Rattle.rules.proofs.Lists.{count-map}
 use Rattle.rules.proofs.Moves.{count-without, without-reported, staying, moved-count}
 use Rattle.rules.proofs.Checked.{listed-line}
-use Rattle.rules.proofs.Refusals.{refusals-exact, not-given}
+use Rattle.rules.proofs.Refusals.{view-exact, not-given}
 use Rattle.rules.proofs.Allowed.{allowed}
 
 -- no task is above its limit; the limit of a task without a line is 0
@@ -80,11 +80,11 @@ one-more T n l known h f m = go (eqb m n) refl
     go true e = subst (λ z. count z l < listedLimit T z) (sym (eqb-true m n e)) below
     go false e = f m
 
-reported-tasks : (t : Tick) (l : List Job) → tasks (map (reportedAt t) l) ≡ tasks l
+reported-tasks : (t : Tick) (l : List Job) → tasks (map (markedAt t) l) ≡ tasks l
 reported-tasks t [] = refl
 reported-tasks t (j ∷ l) = ap (λ z. j .task ∷ z) (reported-tasks t l)
 
-reported-staying : (t : Tick) (r : Option ℕ) (l : List Job) (e : Call) → tasks (staying r (map (reportedAt t) l) e) ≡ tasks (staying r l e)
+reported-staying : (t : Tick) (r : Option ℕ) (l : List Job) (e : Call) → tasks (staying r (map (markedAt t) l) e) ≡ tasks (staying r l e)
 reported-staying t r l (Wait s) = reported-tasks t l
 reported-staying t r l (Activate s n) = reported-tasks t l
 reported-staying t r l (Terminate s) = ap tasks (without-reported t r l) ∙ reported-tasks t (without r l)
@@ -137,11 +137,11 @@ next-fits T b e h = go (result T b e) refl
     come : List ℕ
     come = map (λ (j : Pending). j .task) (makes (accepted T) e)
 
-    go : (k : ℕ) → result T b e ≡ k → Fits T (tasks ((unless k b (done T (watched (tickOf e) b) e)) .jobs))
+    go : (k : ℕ) → result T b e ≡ k → Fits T (tasks ((unless k b (done T (marked (tickOf e) b) e)) .jobs))
     go zero z =
         λ n.
         subst (λ m. m ≤ listedLimit T n)
-        (sym (moved-tasks T n (running T b) (map (reportedAt (tickOf e)) (b .jobs)) e ∙ ap (λ x. count n (come ++ x)) (reported-staying (tickOf e) (running T b) (b .jobs) e)))
+        (sym (moved-tasks T n (running T b) (map (markedAt (tickOf e)) (b .jobs)) e ∙ ap (λ x. count n (come ++ x)) (reported-staying (tickOf e) (running T b) (b .jobs) e)))
         (coming-fits T b e z (staying-fits T (running T b) (b .jobs) e h) n)
     go (suc k) z = h
 
@@ -159,7 +159,7 @@ room-for-all T p calls =
 -- a full list whose limits leave room for one more: none
 full : (T : Table) → Passes T → (b : Board) → Fits T (tasks (b .jobs)) → (t : Tick) (n : ℕ) → result T b (Activate t n) ≡ 10 → ⊥
 full T p b f t n z =
-    let h = (refusals-exact T (viewed T b) (Activate t n)) .1 .1 .1 .0 .0 z in
+    let h = (view-exact T (viewed T b) (Activate t n)) .1 .1 .1 .0 .0 z in
     let known : ¬ (size T ≤ n) = h .0 .0 .1 in
     let below : ¬ (limitOf T n ≤ count n (tasks (b .jobs))) = h .0 .1 in
     let c = room (T .lines) (n ∷ tasks (b .jobs)) (one-more T n (tasks (b .jobs)) (omega arith) (omega arith) f) in

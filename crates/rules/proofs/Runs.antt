@@ -13,8 +13,7 @@ use Rattle.rules.specs.declared.Phase.the-variants.{Delayed, Released}
 use Rattle.rules.specs.Words.{count}
 use Rattle.rules.specs.Table.{Table, priorityOf}
 use Rattle.rules.specs.Jobs.{Job}
-use Rattle.rules.specs.Kernel.{dispatched}
-use Rattle.rules.specs.Layer.{Board, fresh, runningJob, runningIn, isOf, isReleased, without}
+use Rattle.rules.specs.Layer.{running, Board, fresh, runningJob, runningIn, isOf, isReleased, without}
 use Rattle.rules.specs.Run.{run}
 use Rattle.rules.specs.Statement.{pushed, releasedOf, FirstReleased, Highest, Running, RunsReleased}
 use Rattle.rules.proofs.Priority.{kernel-is-priority}
@@ -115,9 +114,9 @@ none-ready (j ∷ l) f z = absurd (some-ready (j .phase) (j .task) (releasedOf l
 runs-some : (T : Table) (b : Board) → Good T Other b → ((b .jobs ≡ []) × (runningJob T b ≡ none)) ⊎ (Running T b)
 runs-some T b g = go (kernel-is-priority (priorityOf T) (b .ready))
   where
-    go : (b .ready ≡ []) ⊎ (Highest (priorityOf T) (b .ready)) → ((b .jobs ≡ []) × (runningJob T b ≡ none)) ⊎ (Running T b)
+    go : ((b .ready ≡ []) × (running T b ≡ none)) ⊎ (Highest (priorityOf T) (b .ready)) → ((b .jobs ≡ []) × (runningJob T b ≡ none)) ⊎ (Running T b)
     go (inl z) =
-        inl (none-ready (b .jobs) (g .lined .first) (sym (g .lined .queue) ∙ z), ap (λ q. runningIn (dispatched (priorityOf T) q) (b .jobs)) z)
+        inl (none-ready (b .jobs) (g .lined .first) (sym (g .lined .queue) ∙ z .0), ap (λ r. runningIn r (b .jobs)) (z .1))
     go (inr h) = inr (runs-one T b g h)
 
 pub runs-released : RunsReleased

@@ -10,7 +10,7 @@ use Rattle.rules.specs.declared.Choice.the-variants.{Idle, Runs}
 use Rattle.rules.specs.Words.{countBy, insertBy}
 use Rattle.rules.specs.Table.{Table}
 use Rattle.rules.specs.Jobs.{Pending, before}
-use Rattle.rules.specs.Plain.{earliest, rest, plainChoice, unended, plainRuns}
+use Rattle.rules.specs.Plain.{earliest, rest, plainChoice, plainOthers, plainRuns}
 use Rattle.rules.proofs.Lists.{rest-of, length-insert, count-insert}
 
 abbrev pub sorted : Table → List Pending → List Pending
@@ -41,9 +41,9 @@ pub choice-sorted : (T : Table) (p : List Pending) → plainChoice T p ≡ runs-
 choice-sorted T [] = refl
 choice-sorted T (j ∷ p) = ap runs-of (sym (sorted-pick T j p))
 
-pub unended-sorted : (T : Table) (p : List Pending) → sorted T (unended T p) ≡ rest-of (sorted T p)
-unended-sorted T [] = refl
-unended-sorted T (j ∷ p) = ap rest-of (sym (sorted-pick T j p))
+pub others-sorted : (T : Table) (p : List Pending) → sorted T (plainOthers T p) ≡ rest-of (sorted T p)
+others-sorted T [] = refl
+others-sorted T (j ∷ p) = ap rest-of (sym (sorted-pick T j p))
 
 pub runs-sorted : (T : Table) (p : List Pending) → plainRuns T p ≡ task-of (sorted T p)
 runs-sorted T [] = refl

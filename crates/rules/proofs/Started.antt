@@ -15,10 +15,10 @@ use Rattle.rules.specs.declared.KernelCall.the-variants.{NoCall}
 use Rattle.rules.specs.Words.{unless, count}
 use Rattle.rules.specs.Table.{Table}
 use Rattle.rules.specs.Jobs.{Job, Pending, accepted, newJob, before}
-use Rattle.rules.specs.Kernel.{ended, kernel}
+use Rattle.rules.specs.Kernel.{dequeued, kernel}
 use Rattle.rules.specs.Calls.{tickOf}
-use Rattle.rules.specs.Late.{reportedAt}
-use Rattle.rules.specs.Layer.{Board, fresh, next, done, watched, result, running, runningIn, isOf, isReleased, without, insert, isFirst, settled, settledBy, entered, moves}
+use Rattle.rules.specs.Late.{markedAt}
+use Rattle.rules.specs.Layer.{Board, fresh, next, done, marked, result, running, runningIn, isOf, isReleased, without, insert, isFirst, settled, settledBy, entered, moves}
 use Rattle.rules.specs.Counts.{ending}
 use Rattle.rules.specs.Run.{run}
 use Rattle.rules.specs.Statement.{pushed, releasedOf, StartedOnce}
@@ -51,12 +51,12 @@ ending-count n t (some m) (j ∷ l) = go (isOf m j) refl (ending-count n t (some
     go false e ih = push (j .phase) (releasedOf (without (some m) l)) (releasedOf l) (endedOf n (endedAt t (runningIn (some m) l))) ih
 
 -- what is chained to is started
-settled-count : (n : ℕ) (r : Option ℕ) (q : List ℕ) (l : List Job) → count n (starts ((settled l) .call)) + count n (ended r q) ≡ count n (kernel r ((settled l) .call) q)
+settled-count : (n : ℕ) (r : Option ℕ) (q : List ℕ) (l : List Job) → count n (starts ((settled l) .call)) + count n (dequeued r q) ≡ count n (kernel r ((settled l) .call) q)
 settled-count n r q [] = omega arith
 settled-count n r q (j ∷ l) = go (j .phase)
   where
-    go : (s : Phase) → count n (starts ((settledBy s j l) .call)) + count n (ended r q) ≡ count n (kernel r ((settledBy s j l) .call) q)
-    go Delayed = omega (arith, count-append (eqb n) (ended r q) (j .task ∷ []))
+    go : (s : Phase) → count n (starts ((settledBy s j l) .call)) + count n (dequeued r q) ≡ count n (kernel r ((settledBy s j l) .call) q)
+    go Delayed = omega (arith, count-append (eqb n) (dequeued r q) (j .task ∷ []))
     go Released = omega arith
 
 entered-count : (T : Table) (n : ℕ) (r : Option ℕ) (q : List ℕ) (j : Pending) (l : List Job) (f : Bool)
@@ -66,31 +66,31 @@ entered-count T n r q j l false = omega arith
 
 module _ (T : Table) (n : ℕ) where
   -- the queue grows by what was started and shrinks by what ended
-  ends-count : (b : Board) → Good T Other b → (t : Tick) → endedOf n (endedAt t (runningIn (running T b) (b .jobs))) + count n (ended (running T b) (b .ready)) ≡ count n (b .ready)
+  ends-count : (b : Board) → Good T Other b → (t : Tick) → endedOf n (endedAt t (runningIn (running T b) (b .jobs))) + count n (dequeued (running T b) (b .ready)) ≡ count n (b .ready)
   ends-count b g t =
       ap (λ z. endedOf n (endedAt t (runningIn (running T b) (b .jobs))) + count n z)
-      (ap (ended (running T b)) (g .lined .queue) ∙ ends T Other (others T) (running T b) (b .jobs) (g .lined .ordered))
+      (ap (dequeued (running T b)) (g .lined .queue) ∙ ends T Other (others T) (running T b) (b .jobs) (g .lined .ordered))
       ∙ ending-count n t (running T b) (b .jobs) ∙ ap (count n) (sym (g .lined .queue))
 
   moves-count : (b : Board) → Good T Other b → (e : Call)
-      → count n (starts ((moves T (watched (tickOf e) b) e) .call)) + count n (b .ready)
-      ≡ endedOf n (endedAt (tickOf e) (ending T b e)) + count n ((done T (watched (tickOf e) b) e) .ready)
+      → count n (starts ((moves T (marked (tickOf e) b) e) .call)) + count n (b .ready)
+      ≡ endedOf n (endedAt (tickOf e) (ending T b e)) + count n ((done T (marked (tickOf e) b) e) .ready)
   moves-count b g (Wait t) = refl
   moves-count b g (Activate t m) =
-      let l = map (reportedAt t) (b .jobs) in
+      let l = map (markedAt t) (b .jobs) in
       let h = entered-count T n (running T b) (b .ready) (accepted T t m) l (isFirst (before T) (accepted T t m) l) in
       omega arith
   moves-count b g (Terminate t) =
-      omega (arith, ends-count b g t, settled-count n (running T b) (b .ready) (without (running T b) (map (reportedAt t) (b .jobs))))
+      omega (arith, ends-count b g t, settled-count n (running T b) (b .ready) (without (running T b) (map (markedAt t) (b .jobs))))
   moves-count b g (Chain t m) =
-      omega (arith, ends-count b g t, settled-count n (running T b) (b .ready) (insert (before T) (newJob Delayed (accepted T t m)) (without (running T b) (map (reportedAt t) (b .jobs)))))
+      omega (arith, ends-count b g t, settled-count n (running T b) (b .ready) (insert (before T) (newJob Delayed (accepted T t m)) (without (running T b) (map (markedAt t) (b .jobs)))))
 
   next-count : (b : Board) → Good T Other b → (e : Call)
       → count n (startedBy T b e) + count n (b .ready) ≡ endedOf n (endedBy T b e) + count n ((next T b e) .ready)
   next-count b g e = go (result T b e)
     where
-      go : (k : ℕ) → count n (starts (unless k NoCall ((moves T (watched (tickOf e) b) e) .call))) + count n (b .ready)
-          ≡ endedOf n (unless k [] (endedAt (tickOf e) (ending T b e))) + count n ((unless k b (done T (watched (tickOf e) b) e)) .ready)
+      go : (k : ℕ) → count n (starts (unless k NoCall ((moves T (marked (tickOf e) b) e) .call))) + count n (b .ready)
+          ≡ endedOf n (unless k [] (endedAt (tickOf e) (ending T b e))) + count n ((unless k b (done T (marked (tickOf e) b) e)) .ready)
       go zero = moves-count b g e
       go (suc k) = refl
 

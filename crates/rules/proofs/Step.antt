@@ -13,20 +13,20 @@ use Rattle.rules.specs.declared.Call.the-variants.{Wait, Activate, Termi
 use Rattle.rules.specs.Words.{unless, All}
 use Rattle.rules.specs.Table.{Table, size}
 use Rattle.rules.specs.Jobs.{Job, Pending, accepted, bare, newJob, before}
-use Rattle.rules.specs.Kernel.{ended, kernel}
+use Rattle.rules.specs.Kernel.{dequeued, kernel}
 use Rattle.rules.specs.Calls.{tickOf}
-use Rattle.rules.specs.Late.{reportedAt}
-use Rattle.rules.specs.Layer.{Board, insert, isFirst, without, settled, settledBy, entered, moved, fresh, viewed, result, running, watched, done, next}
+use Rattle.rules.specs.Late.{markedAt}
+use Rattle.rules.specs.Layer.{Board, insert, isFirst, without, settled, settledBy, entered, moved, fresh, viewed, result, running, marked, done, next}
 use Rattle.rules.specs.Run.{run}
 use Rattle.rules.specs.Statement.{pushed, releasedOf, FirstReleased}
 use Rattle.rules.specs.History.{makes}
 use Rattle.rules.proofs.Moves.{all-without, pairs-without, moved-all}
 use Rattle.rules.proofs.Allowed.{Known, known-of, time-of, allowed}
 use Rattle.rules.proofs.Order.{Made, Ranking}
-use Rattle.rules.proofs.Invariant.{Ahead, Ordered, Sound, Lined, GoodOf, Good, watched-good, ends, over-first, insert-ordered, insert-released, insert-first, insert-behind}
+use Rattle.rules.proofs.Invariant.{Ahead, Ordered, Sound, Lined, GoodOf, Good, marked-good, ends, over-first, insert-ordered, insert-released, insert-first, insert-behind}
 
 -- the running job r has left the list and the queue q
-settled-lined : (T : Table) (P : ℕ → ℕ → Type 0) (l : List Job) (r : Option ℕ) (q : List ℕ) → Ordered T P l → ended r q ≡ releasedOf l
+settled-lined : (T : Table) (P : ℕ → ℕ → Type 0) (l : List Job) (r : Option ℕ) (q : List ℕ) → Ordered T P l → dequeued r q ≡ releasedOf l
     → Lined T P ((settled l) .jobs) (kernel r ((settled l) .call) q)
 settled-lined T P [] r q o e = record { ordered = tt; first = tt; queue = e }
 settled-lined T P (j ∷ l) r q o e = go (j .phase) refl
@@ -73,12 +73,12 @@ module _ (T : Table) (P : ℕ → ℕ → Type 0) (rank : Ranking T P) where
       entered-lined (accepted T t n) (new-made t n k) l r q g (isFirst (before T) (accepted T t n) l) refl
   moved-lined r l q (Terminate t) k g =
       settled-lined T P (without r l) r q (pairs-without (λ i j. Ahead T P (bare i) j) r l (g .lined .ordered))
-      (ap (ended r) (g .lined .queue) ∙ ends T P rank r l (g .lined .ordered))
+      (ap (dequeued r) (g .lined .queue) ∙ ends T P rank r l (g .lined .ordered))
   moved-lined r l q (Chain t n) k g =
       settled-lined T P (insert (before T) (newJob Delayed (accepted T t n)) (without r l)) r q
       (insert-ordered T P rank (accepted T t n) (new-made t n k) (without r l) (all-without (Sound T t) r l (g .sound))
       (pairs-without (λ i j. Ahead T P (bare i) j) r l (g .lined .ordered)))
-      (ap (ended r) (g .lined .queue) ∙ ends T P rank r l (g .lined .ordered) ∙ sym (insert-released T (accepted T t n) (without r l)))
+      (ap (dequeued r) (g .lined .queue) ∙ ends T P rank r l (g .lined .ordered) ∙ sym (insert-released T (accepted T t n) (without r l)))
 
   -- the jobs of a good board move at a call's tick, whichever job runs
   pub moved-good : (r : Option ℕ) (l : List Job) (q : List ℕ) (e : Call) → Known T e → GoodOf T P (tickOf e) l q
@@ -89,16 +89,16 @@ module _ (T : Table) (P : ℕ → ℕ → Type 0) (rank : Ranking T P) where
         lined = moved-lined r l q e k g;
       }
 
-  pub done-good : (b : Board) → Good T P b → (e : Call) → result T b e ≡ 0 → Good T P (done T (watched (tickOf e) b) e)
+  pub done-good : (b : Board) → Good T P b → (e : Call) → result T b e ≡ 0 → Good T P (done T (marked (tickOf e) b) e)
   done-good b g e z =
       let a = allowed T (viewed T b) e z in
-      moved-good (running T b) (map (reportedAt (tickOf e)) (b .jobs)) (b .ready) e (known-of T (viewed T b) e a)
-      (watched-good T P (b .last) (tickOf e) (time-of T (viewed T b) e a) (b .jobs) (b .ready) g)
+      moved-good (running T b) (map (markedAt (tickOf e)) (b .jobs)) (b .ready) e (known-of T (viewed T b) e a)
+      (marked-good T P (b .last) (tickOf e) (time-of T (viewed T b) e a) (b .jobs) (b .ready) g)
 
   pub next-good : (b : Board) → Good T P b → (e : Call) → Good T P (next T b e)
   next-good b g e = go (result T b e) refl
     where
-      go : (k : ℕ) → result T b e ≡ k → Good T P (unless k b (done T (watched (tickOf e) b) e))
+      go : (k : ℕ) → result T b e ≡ k → Good T P (unless k b (done T (marked (tickOf e) b) e))
       go zero z = done-good b g e z
       go (suc k) z = g
 

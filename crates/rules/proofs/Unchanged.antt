@@ -10,7 +10,7 @@ use Rattle.rules.specs.Words.{unless}
 use Rattle.rules.specs.Table.{Table}
 use Rattle.rules.specs.Calls.{tickOf}
 use Rattle.rules.specs.Late.{newlyLate}
-use Rattle.rules.specs.Layer.{Board, result, choice, done, watched, moves, inPlaces, tasks, lateTasks}
+use Rattle.rules.specs.Layer.{Board, result, choice, done, marked, moves, inPlaces, tasks, lateTasks}
 use Rattle.rules.specs.Counts.{withEnded, withLate, ending}
 use Rattle.rules.specs.Run.{Head}
 use Rattle.rules.specs.Statement.{RefusedUnchanged}
@@ -30,9 +30,9 @@ pub refused-unchanged : RefusedUnchanged
 refused-unchanged T h e n =
     record {
       state =
-          old-head h (done T (watched (tickOf e) (h .board)) e)
+          old-head h (done T (marked (tickOf e) (h .board)) e)
           (withEnded (tickOf e) (ending T (h .board) e) (withLate (lateTasks T (h .board) e) (h .tallies))) (result T (h .board) e) n;
       returns =
-          old-answer T (result T (h .board) e) (h .board) (done T (watched (tickOf e) (h .board)) e)
-          ((moves T (watched (tickOf e) (h .board)) e) .call) (tasks (newlyLate (tickOf e) (h .board .jobs))) (result T (h .board) e) n;
+          old-answer T (result T (h .board) e) (h .board) (done T (marked (tickOf e) (h .board)) e)
+          ((moves T (marked (tickOf e) (h .board)) e) .call) (tasks (newlyLate (tickOf e) (h .board .jobs))) (result T (h .board) e) n;
     }

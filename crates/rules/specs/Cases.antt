@@ -70,6 +70,7 @@ abbrev pub twoOfTask0 : List Call
 twoOfTask0 = Activate (at 0) 0 ∷ Activate (at 0) 0 ∷ []
 
 pub record Cases : Type 0 where
+  pub printed-table : check tableP ≡ verdict 0 []
   pub printed-run :
       answers tableP fresh printed
       ≡ says 0 (Runs 0 (at 3)) (ActivateTask 0) []
@@ -91,6 +92,7 @@ pub record Cases : Type 0 where
       answers tableP fresh (Activate (at 0) 1 ∷ Activate (at 1) 0 ∷ Terminate (at 2) ∷ [])
       ≡ says 0 (Runs 1 (at 5)) (ActivateTask 1) [] ∷ says 0 (Runs 0 (at 4)) (ActivateTask 0) [] ∷ says 0 (Runs 1 (at 5)) TerminateTask [] ∷ []
   pub c-behind-its-equal : (run tableP fresh twoOfTask0) .jobs ≡ job 0 0 3 Released ∷ job 0 0 3 Delayed ∷ []
+  pub d-accepted : check tableD ≡ verdict 0 []
   pub d-own-deadlines :
       answers tableD fresh (Activate (at 21) 0 ∷ Activate (at 22) 1 ∷ [])
       ≡ says 0 (Runs 0 (at 31)) (ActivateTask 0) [] ∷ says 0 (Runs 0 (at 31)) NoCall [] ∷ []
@@ -103,14 +105,15 @@ pub record Cases : Type 0 where
   pub f-kernel : choice tableF (run tableF fresh longerFirst) ≡ Runs 1 (at 5)
   pub f-plain : plainChoice tableF ((plainRun tableF start longerFirst) .pending) ≡ Runs 0 (at 3)
   pub g-accepted : check (table (line 5 2 1 ∷ line 5 2 1 ∷ [])) ≡ verdict 0 []
-  pub h-chain : result tableP (run tableP fresh twoOfTask0) (Chain (at 0) 0) ≡ 0
+  pub h-chain : answer tableP (run tableP fresh twoOfTask0) (Chain (at 0) 0) ≡ says 0 (Runs 0 (at 3)) (ChainTask 0) []
   pub h-activate : result tableP (run tableP fresh twoOfTask0) (Activate (at 0) 0) ≡ 4
   pub i-nothing-runs : result tableP fresh (Terminate (at 0)) ≡ 2
   pub i-goes-back : result tableP (run tableP fresh (Wait (at 5) ∷ [])) (Terminate (at 4)) ≡ 8
   pub i-changes-nothing : run tableP fresh (Wait (at 5) ∷ Terminate (at 4) ∷ []) ≡ run tableP fresh (Wait (at 5) ∷ [])
   pub j-on-time : answer tableP (run tableP fresh (Activate (at 3) 0 ∷ [])) (Terminate (at 6)) ≡ says 0 Idle TerminateTask []
   pub j-late : answer tableP (run tableP fresh (Activate (at 3) 0 ∷ [])) (Terminate (at 7)) ≡ says 0 Idle TerminateTask (0 ∷ [])
-  pub j-counts : take 1 ((headRun tableP freshHead (Activate (at 3) 0 ∷ Terminate (at 7) ∷ [])) .tallies) ≡ tally 1 1 4 ∷ []
+  pub j-on-time-counts : take 1 ((headRun tableP freshHead (Activate (at 3) 0 ∷ Terminate (at 6) ∷ [])) .tallies) ≡ tally 0 1 3 ∷ []
+  pub j-late-counts : take 1 ((headRun tableP freshHead (Activate (at 3) 0 ∷ Terminate (at 7) ∷ [])) .tallies) ≡ tally 1 1 4 ∷ []
   pub k-not-shortest : numberAt (0x80 ∷ 0x00 ∷ []) 0 ≡ Refused 21
   pub k-cut-off : numberAt (0x80 ∷ []) 0 ≡ Refused 20
   pub k-127 : numberAt (0x7F ∷ []) 0 ≡ Value 127 1

@@ -1,10 +1,11 @@
 -- All that is claimed of the rules, in one place; proofs/Claims.antt proves it. Assumes nothing.
-use Rattle.rules.specs.Statement.{Demand3, Demand3-broken, PlainIsEdf, KernelIsPriority, CheckExact, RefusalsExact, RefusedUnchanged, NoTen, ListHolds, RunsReleased, InsertsBehind, StartedOnce, NothingVanishes, ApartPriorities, LateIsCheap, ReportedOnce, PlacesSuffice, CountsAddUp}
+use Rattle.rules.specs.Statement.{Demand3, Demand3-answers, Demand3-broken, PlainIsEdf, KernelIsPriority, CheckExact, RefusalsExact, PlainRefusalsExact, LastAccepted, RefusedUnchanged, NoTen, ListHolds, RunsReleased, ListMoves, CallsMade, StartedOnce, NothingVanishes, ApartPriorities, LateOnce, ReportedOnce, LateNeedsNoMark, PlacesSuffice, CountsAddUp}
 use Rattle.rules.specs.Cases.{Cases}
 
 pub record Claims : Type 0 where
   -- demand 3: the kernel runs what the plain scheduler runs; on a broken pair the two part
   pub demand-3 : Demand3
+  pub demand-3-answers : Demand3-answers
   pub demand-3-broken : Demand3-broken
   -- the plain scheduler picks the earliest deadline, the kernel the highest priority
   pub plain-is-edf : PlainIsEdf
@@ -13,18 +14,23 @@ pub record Claims : Type 0 where
   pub check-exact : CheckExact
   -- each number of a call is given exactly on its condition, and a refused call changes nothing
   pub refusals-exact : RefusalsExact
+  pub plain-refusals-exact : PlainRefusalsExact
+  pub last-accepted : LastAccepted
   pub refused-unchanged : RefusedUnchanged
   pub no-ten : NoTen
-  -- the list is in order with its first job released, each job is released by exactly one kernel call, and no accepted job vanishes
+  -- the list is in order, its first job released; what runs, what each call does to the list, and its kernel call
   pub list-holds : ListHolds
   pub runs-released : RunsReleased
-  pub inserts-behind : InsertsBehind
+  pub list-moves : ListMoves
+  pub calls-made : CallsMade
+  -- each job is released by exactly one kernel call, and no accepted job vanishes
   pub started-once : StartedOnce
   pub nothing-vanishes : NothingVanishes
   pub apart-priorities : ApartPriorities
-  -- late jobs are reported once, and the counts follow from the accepted calls
-  pub late-is-cheap : LateIsCheap
+  -- each late job is reported once, and the counts follow from the accepted calls
+  pub late-once : LateOnce
   pub reported-once : ReportedOnce
+  pub late-needs-no-mark : LateNeedsNoMark
   pub places-suffice : PlacesSuffice
   pub counts-add-up : CountsAddUp
   -- the printed run, and cases a to l

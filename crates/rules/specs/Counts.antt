@@ -29,15 +29,15 @@ most = 4294967295
 abbrev pub up : ℕ → ℕ
 up k = cond (ltb k most) (suc k) k
 
--- a late job more
+-- one more late job
 abbrev pub lateMore : Tally → Tally
 lateMore c = record { late = up (c .late); ended = c .ended; response = c .response }
 
--- an ended job more, with its response
+-- one more ended job, with its response
 abbrev pub endedMore : ℕ → Tally → Tally
 endedMore r c = record { late = c .late; ended = up (c .ended); response = max (c .response) r }
 
--- of task n
+-- a change of task n's tally
 abbrev pub onTask : ℕ → (Tally → Tally) → List Tally → List Tally
 onTask n f c = set c n (f (getD c n noTally))
 

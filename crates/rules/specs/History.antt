@@ -1,5 +1,5 @@
--- What the calls of a sequence did, from a fresh start on: kernel calls made, jobs accepted, ended and reported. Assumes nothing.
-use Prim.Native.Nat.{ℕ, max}
+-- What the calls of a sequence did, from a fresh start on: tasks started, jobs accepted, ended and reported. Assumes nothing.
+use Prim.Native.Nat.{ℕ, _+_, _-_, max}
 use mathlib.Core.Bool.{cond}
 use mathlib.Core.List.{List, [], _∷_, _++_, map}
 use mathlib.Core.Option.{Option, some, none}
@@ -10,12 +10,12 @@ use Rattle.rules.specs.declared.Call.the-variants.{Wait, Activate, Termi
 use Rattle.rules.specs.declared.KernelCall.{KernelCall}
 use Rattle.rules.specs.declared.KernelCall.the-variants.{NoCall, ActivateTask, ChainTask, TerminateTask}
 use Rattle.rules.specs.Words.{unless, countBy}
-use Rattle.rules.specs.Table.{Table}
-use Rattle.rules.specs.Jobs.{Job, Pending, accepted, bare}
+use Rattle.rules.specs.Table.{Table, deadlineOf}
+use Rattle.rules.specs.Jobs.{Job, Pending, bare}
 use Rattle.rules.specs.Calls.{tickOf}
 use Rattle.rules.specs.Late.{newlyLate}
-use Rattle.rules.specs.Layer.{Board, fresh, next, result, answer, lateTasks}
-use Rattle.rules.specs.Counts.{ending, responseOf}
+use Rattle.rules.specs.Layer.{Board, fresh, next, result, answer}
+use Rattle.rules.specs.Counts.{ending}
 
 -- what each call did, one behind the other
 abbrev pub along {ℓ} : {A : Type ℓ} → Table → (Board → Call → List A) → Board → List Call → List A
@@ -39,7 +39,10 @@ startedBy T b e = starts ((answer T b e) .call)
 abbrev pub started : Table → List Call → List ℕ
 started T calls = along T (startedBy T) fresh calls
 
--- the jobs that accepted calls made
+-- the jobs that accepted calls made: due at t + D
+abbrev pub jobOf : Table → Tick → ℕ → Pending
+jobOf T t n = record { task = n; since = t; due = record { 0 = t .0 + (deadlineOf T n) .0 } }
+
 abbrev pub makes : (Tick → ℕ → Pending) → Call → List Pending
 makes new (Wait t) = []
 makes new (Activate t n) = new t n ∷ []
@@ -47,7 +50,7 @@ makes new (Terminate t) = []
 makes new (Chain t n) = new t n ∷ []
 
 abbrev pub acceptedBy : Table → Board → Call → List Pending
-acceptedBy T b e = ifAccepted T b e (makes (accepted T) e)
+acceptedBy T b e = ifAccepted T b e (makes (jobOf T) e)
 
 abbrev pub acceptances : Table → List Call → List Pending
 acceptances T calls = along T (acceptedBy T) fresh calls
@@ -67,20 +70,21 @@ endedBy T b e = ifAccepted T b e (endedAt (tickOf e) (ending T b e))
 abbrev pub endings : Table → List Call → List Ended
 endings T calls = along T (endedBy T) fresh calls
 
--- how many of them are of task n, and the greatest response
+-- how many of them are of task n, and the greatest response: ending tick less activation tick
 abbrev pub endedOf : ℕ → List Ended → ℕ
 endedOf n l = countBy (λ (x : Ended). eqb n (x .job .task)) l
 
 abbrev pub greatestOf : ℕ → List Ended → ℕ
 greatestOf n [] = 0
-greatestOf n (x ∷ l) = cond (eqb n (x .job .task)) (max (responseOf (x .tick) (x .job)) (greatestOf n l)) (greatestOf n l)
+greatestOf n (x ∷ l) = cond (eqb n (x .job .task)) (max (x .tick .0 - x .job .since .0) (greatestOf n l)) (greatestOf n l)
 
--- the jobs that they reported as late, and the tasks in their answers
+-- the jobs that they reported as late
 abbrev pub reportedBy : Table → Board → Call → List Pending
 reportedBy T b e = ifAccepted T b e (map bare (newlyLate (tickOf e) (b .jobs)))
 
 abbrev pub reports : Table → List Call → List Pending
 reports T calls = along T (reportedBy T) fresh calls
 
-abbrev pub lates : Table → List Call → List ℕ
-lates T calls = along T (lateTasks T) fresh calls
+-- their ticks
+abbrev pub ticks : Table → List Call → List Tick
+ticks T calls = along T (λ b e. ifAccepted T b e (tickOf e ∷ [])) fresh calls

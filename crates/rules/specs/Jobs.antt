@@ -37,14 +37,14 @@ newJob s j = record { task = j .task; since = j .since; due = j .due; phase = s;
 abbrev pub released : Job → Job
 released j = record { task = j .task; since = j .since; due = j .due; phase = Released; reported = j .reported }
 
--- what orders a job: its deadline
+-- what orders a job: its deadline, whatever the table
 unfoldable pub keyAt : Table → Tick → ℕ
 keyAt T due = due .0
 
 abbrev pub key : Table → Pending → ℕ
 key T j = keyAt T (j .due)
 
--- j goes before k: the one order of the list and of the plain scheduler. Where neither goes before the other, the first accepted does
+-- j goes before k: the one order of the list and of the plain scheduler. On equal deadlines neither does, and the first accepted stays first
 abbrev pub Before : Table → Pending → Pending → Type 0
 Before T j k = key T j < key T k
 

@@ -8,7 +8,7 @@ use lib.Dec.{ltb, eqb}
 use Rattle.rules.specs.declared.KernelCall.{KernelCall}
 use Rattle.rules.specs.declared.KernelCall.the-variants.{NoCall, ActivateTask, ChainTask, TerminateTask}
 
--- of n and the highest of those released after it: a later one only if it is strictly higher. `level` gives a task's priority
+-- n, or what would run of those released after it, only if that is strictly higher. `level` gives a task's priority
 abbrev pub higher : (ℕ → ℕ) → ℕ → Option ℕ → ℕ
 higher level n none = n
 higher level n (some m) = cond (ltb (level n) (level m)) m n
@@ -23,13 +23,13 @@ remove n [] = []
 remove n (m ∷ q) = cond (eqb n m) q (m ∷ remove n q)
 
 -- the queue without the job that ran
-abbrev pub ended : Option ℕ → List ℕ → List ℕ
-ended none q = q
-ended (some n) q = remove n q
+abbrev pub dequeued : Option ℕ → List ℕ → List ℕ
+dequeued none q = q
+dequeued (some n) q = remove n q
 
 -- the queue after a kernel call, r being the task that runs. ChainTask ends the running job, then releases
 abbrev pub kernel : Option ℕ → KernelCall → List ℕ → List ℕ
 kernel r NoCall q = q
 kernel r (ActivateTask n) q = q ++ (n ∷ [])
-kernel r (ChainTask n) q = ended r q ++ (n ∷ [])
-kernel r TerminateTask q = ended r q
+kernel r (ChainTask n) q = dequeued r q ++ (n ∷ [])
+kernel r TerminateTask q = dequeued r q

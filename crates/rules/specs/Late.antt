@@ -17,10 +17,10 @@ isLate t j = isPast t (j .due)
 abbrev pub newlyLate : Tick → List Job → List Job
 newlyLate t l = only (λ (j : Job). isLate t j && not (j .reported)) l
 
--- the job after that call
-abbrev pub reportedAt : Tick → Job → Job
-reportedAt t j = record { task = j .task; since = j .since; due = j .due; phase = j .phase; reported = j .reported || isLate t j }
+-- the job after an accepted call at t
+abbrev pub markedAt : Tick → Job → Job
+markedAt t j = record { task = j .task; since = j .since; due = j .due; phase = j .phase; reported = j .reported || isLate t j }
 
--- the same test from the last accepted call's tick, without a mark on the job
+-- the same test without a mark on the job, from the last accepted call's tick: for code that keeps no mark
 abbrev pub fallsLate : Tick → Tick → Job → Bool
 fallsLate last t j = leb (last .0) (j .due .0) && ltb (j .due .0) (t .0)

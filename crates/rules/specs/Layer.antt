@@ -21,7 +21,7 @@ use Rattle.rules.specs.Table.{Table, priorityOf}
 use Rattle.rules.specs.Jobs.{Job, Pending, accepted, bare, newJob, released, before}
 use Rattle.rules.specs.Kernel.{dispatched, kernel}
 use Rattle.rules.specs.Calls.{View, tickOf, refusal}
-use Rattle.rules.specs.Late.{newlyLate, reportedAt}
+use Rattle.rules.specs.Late.{newlyLate, markedAt}
 
 -- ---- the list
 
@@ -29,7 +29,7 @@ use Rattle.rules.specs.Late.{newlyLate, reportedAt}
 abbrev pub Order : Type 0
 Order = Pending → Pending → Bool
 
--- a new job goes behind all jobs that it does not go before
+-- a new job goes behind all jobs with an earlier or the same deadline
 abbrev pub insert : Order → Job → List Job → List Job
 insert goes j l = insertBy (λ a b. goes (bare a) (bare b)) j l
 
@@ -41,7 +41,7 @@ abbrev pub isReleased : Phase → Bool
 isReleased Delayed = false
 isReleased Released = true
 
--- the released job of task n
+-- is this the released job of task n
 abbrev pub isOf : ℕ → Job → Bool
 isOf n j = eqb n (j .task) && isReleased (j .phase)
 
@@ -121,9 +121,9 @@ viewed T b =
 abbrev pub result : Table → Board → Call → ℕ
 result T b e = refusal T (viewed T b) e
 
--- an accepted call first reports the newly late jobs
-abbrev pub watched : Tick → Board → Board
-watched t b = record { last = b .last; jobs = map (reportedAt t) (b .jobs); ready = b .ready }
+-- an accepted call first marks the late jobs as reported
+abbrev pub marked : Tick → Board → Board
+marked t b = record { last = b .last; jobs = map (markedAt t) (b .jobs); ready = b .ready }
 
 -- then it moves the jobs, and the kernel does what it is asked
 abbrev pub moves : Table → Board → Call → Moved
@@ -137,7 +137,7 @@ done T b e = after T b e (moves T b e)
 
 -- the board after a call; a refused call changes nothing
 abbrev pub next : Table → Board → Call → Board
-next T b e = unless (result T b e) b (done T (watched (tickOf e) b) e)
+next T b e = unless (result T b e) b (done T (marked (tickOf e) b) e)
 
 -- ---- what a call returns
 
@@ -154,6 +154,6 @@ answer T b e =
     record {
       result = result T b e;
       running = choice T (next T b e);
-      call = unless (result T b e) NoCall ((moves T (watched (tickOf e) b) e) .call);
+      call = unless (result T b e) NoCall ((moves T (marked (tickOf e) b) e) .call);
       late = inPlaces (lateTasks T b e);
     }

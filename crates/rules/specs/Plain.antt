@@ -40,9 +40,9 @@ abbrev pub plainRuns : Table → List Pending → Option ℕ
 plainRuns T [] = none
 plainRuns T (j ∷ p) = some ((earliest T j p) .task)
 
-abbrev pub unended : Table → List Pending → List Pending
-unended T [] = []
-unended T (j ∷ p) = rest T j p
+abbrev pub plainOthers : Table → List Pending → List Pending
+plainOthers T [] = []
+plainOthers T (j ∷ p) = rest T j p
 
 abbrev pub plainTasks : List Pending → List ℕ
 plainTasks p = map (λ (j : Pending). j .task) p
@@ -50,7 +50,7 @@ plainTasks p = map (λ (j : Pending). j .task) p
 -- the same refusals
 abbrev pub plainViewed : Table → Plain → View
 plainViewed T p =
-    record { last = p .last; runs = plainRuns T (p .pending); pending = plainTasks (p .pending); others = plainTasks (unended T (p .pending)) }
+    record { last = p .last; runs = plainRuns T (p .pending); pending = plainTasks (p .pending); others = plainTasks (plainOthers T (p .pending)) }
 
 abbrev pub plainResult : Table → Plain → Call → ℕ
 plainResult T p e = refusal T (plainViewed T p) e
@@ -59,8 +59,8 @@ plainResult T p e = refusal T (plainViewed T p) e
 abbrev pub plainMoved : Table → List Pending → Call → List Pending
 plainMoved T p (Wait t) = p
 plainMoved T p (Activate t n) = accepted T t n ∷ p
-plainMoved T p (Terminate t) = unended T p
-plainMoved T p (Chain t n) = accepted T t n ∷ unended T p
+plainMoved T p (Terminate t) = plainOthers T p
+plainMoved T p (Chain t n) = accepted T t n ∷ plainOthers T p
 
 abbrev pub plainNext : Table → Plain → Call → Plain
 plainNext T p e = unless (plainResult T p e) p (record { last = tickOf e; pending = plainMoved T (p .pending) e })

@@ -4,7 +4,7 @@ use mathlib.Core.List.{List, [], _∷_}
 use Rattle.rules.specs.declared.Call.{Call}
 use Rattle.rules.specs.declared.Answer.{Answer}
 use Rattle.rules.specs.declared.Tally.{Tally}
-use Rattle.rules.specs.Table.{Table}
+use Rattle.rules.specs.Table.{Table, fine, check}
 use Rattle.rules.specs.Layer.{Board, fresh, next, answer}
 use Rattle.rules.specs.Counts.{noTallies, tallied}
 
@@ -33,7 +33,8 @@ abbrev pub headRun : Table → Head → List Call → Head
 headRun T h [] = h
 headRun T h (e ∷ es) = headRun T (headNext T h e) es
 
--- a state that was handed out and has since been changed by nothing but calls
+-- a state that the check handed out and that has since been changed by nothing but calls
 pub record Reached (T : Table) (h : Head) : Type 0 where
+  pub accepted : check T ≡ fine
   pub calls : List Call
   pub is : h ≡ headRun T freshHead calls

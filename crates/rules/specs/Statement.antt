@@ -2,30 +2,33 @@
 use Prim.Native.Nat.{ℕ, _+_, _<_, _≤_, min}
 use mathlib.Core.Path.{_≡_}
 use mathlib.Core.Logic.{_↔_, _⊎_}
-use mathlib.Core.Bool.{Bool}
+use mathlib.Core.Bool.{Bool, _&&_}
 use mathlib.Core.List.{List, [], _∷_, _++_, map}
-use mathlib.Core.Option.{some, none}
+use mathlib.Core.Option.{Option, some, none}
 use lib.ListN.{length, getD}
+use lib.Dec.{eqb, ltb}
 use Rattle.rules.specs.declared.Tick.{Tick}
 use Rattle.rules.specs.declared.Phase.{Phase}
 use Rattle.rules.specs.declared.Phase.the-variants.{Delayed, Released}
 use Rattle.rules.specs.declared.Call.{Call}
 use Rattle.rules.specs.declared.Call.the-variants.{Wait, Activate, Terminate, Chain}
-use Rattle.rules.specs.declared.KernelCall.the-variants.{NoCall}
+use Rattle.rules.specs.declared.KernelCall.{KernelCall}
+use Rattle.rules.specs.declared.KernelCall.the-variants.{NoCall, ActivateTask, ChainTask, TerminateTask}
 use Rattle.rules.specs.declared.Choice.the-variants.{Idle, Runs}
 use Rattle.rules.specs.declared.Late.{Late}
+use Rattle.rules.specs.declared.Answer.{Answer}
 use Rattle.rules.specs.declared.Tally.{Tally}
-use Rattle.rules.specs.Words.{Within, countBy, count, only, All, Pairs}
+use Rattle.rules.specs.Words.{Within, countBy, count, only, lastOr, All, Pairs}
 use Rattle.rules.specs.Table.{Table, size, lineOf, deadlineOf, priorityOf, limitOf, limits, plus, DeadlineInRange, LimitInRange, InRange, Passes, Keeps, Verdict, verdict, check}
-use Rattle.rules.specs.Jobs.{Job, Pending, bare, Before, before}
-use Rattle.rules.specs.Kernel.{dispatched}
-use Rattle.rules.specs.Calls.{View, refusal}
+use Rattle.rules.specs.Jobs.{Job, Pending, bare, Before}
+use Rattle.rules.specs.Kernel.{dispatched, dequeued, kernel}
+use Rattle.rules.specs.Calls.{View}
 use Rattle.rules.specs.Late.{newlyLate, fallsLate}
-use Rattle.rules.specs.Layer.{Board, insert, without, running, runningJob, fresh, result, choice, answer, inPlaces, lateTasks}
+use Rattle.rules.specs.Layer.{Board, without, tasks, running, runningJob, fresh, next, result, choice, answer, inPlaces}
 use Rattle.rules.specs.Counts.{noTally}
-use Rattle.rules.specs.Plain.{Plain, start, plainRun, plainChoice, plainResult, unended}
-use Rattle.rules.specs.Run.{run, Head, freshHead, headNext, headRun}
-use Rattle.rules.specs.History.{started, Ended, endings, endedOf, greatestOf, acceptances, reports, lates}
+use Rattle.rules.specs.Plain.{Plain, start, plainRun, plainNext, plainChoice, plainRuns, plainTasks, plainOthers, plainResult}
+use Rattle.rules.specs.Run.{run, answers, Head, freshHead, headNext, headRun}
+use Rattle.rules.specs.History.{startedBy, started, jobOf, acceptances, Ended, endings, endedOf, greatestOf, reportedBy, reports, ticks}
 
 -- ==== demand 3
 
@@ -39,6 +42,14 @@ pub record Agree (T : Table) (b : Board) (p : Plain) : Type 0 where
 abbrev pub Demand3 : Type 0
 Demand3 = (T : Table) → Keeps T → (calls : List Call) → Agree T (run T fresh calls) (plainRun T start calls)
 
+-- and so each answer: the plain scheduler's result, and the job that it runs after the call
+pub record Answers (T : Table) (b : Board) (p : Plain) (e : Call) : Type 0 where
+  pub result : (answer T b e) .result ≡ plainResult T p e
+  pub running : (answer T b e) .running ≡ plainChoice T ((plainNext T p e) .pending)
+
+abbrev pub Demand3-answers : Type 0
+Demand3-answers = (T : Table) → Keeps T → (calls : List Call) (e : Call) → Answers T (run T fresh calls) (plainRun T start calls) e
+
 -- tasks i and j of a table that passes checks 1 to 4 break the rule, i being the shorter
 pub record Broken (T : Table) (i j : ℕ) : Type 0 where
   pub passes : Passes T
@@ -47,53 +58,56 @@ pub record Broken (T : Table) (i j : ℕ) : Type 0 where
   pub shorter : (deadlineOf T i) .0 < (deadlineOf T j) .0
   pub not-higher : priorityOf T i ≤ priorityOf T j
 
--- the longer task and then the shorter, both at tick 0
+-- the two calls: the longer task, then the shorter, both at tick 0
 abbrev pub partAt : Table → ℕ → ℕ → Tick
 partAt T i j = record { 0 = 0 }
 
 abbrev pub parting : Table → ℕ → ℕ → List Call
 parting T i j = Activate (partAt T i j) j ∷ Activate (partAt T i j) i ∷ []
 
--- make the two part: the kernel runs the longer, the plain scheduler the shorter
+-- both are accepted; after them the kernel runs the longer, the plain scheduler the shorter
 pub record Part (T : Table) (i j : ℕ) : Type 0 where
+  pub accepted : map (λ (a : Answer). a .result) (answers T fresh (parting T i j)) ≡ 0 ∷ 0 ∷ []
   pub kernel : choice T (run T fresh (parting T i j)) ≡ Runs j (plus (partAt T i j) (deadlineOf T j))
   pub plain : plainChoice T ((plainRun T start (parting T i j)) .pending) ≡ Runs i (plus (partAt T i j) (deadlineOf T i))
   pub apart : choice T (run T fresh (parting T i j)) ≡ plainChoice T ((plainRun T start (parting T i j)) .pending) → ⊥
 
--- whichever pair breaks the rule; and the check refuses such a table with 5
+-- so it is for every breaking pair; and the check gives 5
 abbrev pub Demand3-broken : Type 0
 Demand3-broken = (T : Table) (i j : ℕ) → Broken T i j → Part T i j × ((check T) .number ≡ 5)
 
 -- ==== the two schedulers are what their names say
 
--- one of the pending jobs p, the last accepted first, runs: none is due earlier, and those accepted before it are due later
+-- one of the pending jobs p runs, the last accepted standing first: those accepted after it are due no earlier, those accepted before it are due later
 pub record Edf (T : Table) (p : List Pending) : Type 0 where
   pub newer : List Pending
   pub job : Pending
   pub older : List Pending
   pub among : p ≡ newer ++ (job ∷ older)
-  pub runs : plainChoice T p ≡ Runs (job .task) (job .due)
-  pub others : unended T p ≡ newer ++ older
   pub earliest : All (λ (j : Pending). job .due .0 ≤ j .due .0) newer
   pub first : All (λ (j : Pending). job .due .0 < j .due .0) older
+  pub runs : plainChoice T p ≡ Runs (job .task) (job .due)
+  pub of-task : plainRuns T p ≡ some (job .task)
+  pub others : plainOthers T p ≡ newer ++ older
 
--- the plain scheduler runs the earliest deadline, the first accepted on equal ones
+-- the plain scheduler runs the earliest deadline, the first accepted on equal ones; nothing where nothing is pending
 abbrev pub PlainIsEdf : Type 0
-PlainIsEdf = (T : Table) (p : List Pending) → (p ≡ []) ⊎ (Edf T p)
+PlainIsEdf = (T : Table) (p : List Pending) → ((p ≡ []) × (plainChoice T p ≡ Idle)) ⊎ (Edf T p)
 
--- one of the ready queue q runs: those released before it are lower, and none is higher
+-- one of the ready queue q runs: those released before it have lower priorities, those released after it none higher
 pub record Highest (level : ℕ → ℕ) (q : List ℕ) : Type 0 where
   pub sooner : List ℕ
   pub task : ℕ
   pub later : List ℕ
   pub among : q ≡ sooner ++ (task ∷ later)
-  pub runs : dispatched level q ≡ some task
   pub first : All (λ n. level n < level task) sooner
   pub highest : All (λ n. level n ≤ level task) later
+  pub runs : dispatched level q ≡ some task
+  pub others : dequeued (dispatched level q) q ≡ sooner ++ later
 
--- the kernel runs the highest priority, the first released on equal ones
+-- the kernel runs the highest priority, the first released on equal ones; nothing where nothing is released
 abbrev pub KernelIsPriority : Type 0
-KernelIsPriority = (level : ℕ → ℕ) (q : List ℕ) → (q ≡ []) ⊎ (Highest level q)
+KernelIsPriority = (level : ℕ → ℕ) (q : List ℕ) → ((q ≡ []) × (dispatched level q ≡ none)) ⊎ (Highest level q)
 
 -- ==== the check
 
@@ -108,11 +122,11 @@ Clash T i j = Breaks T i j ⊎ Breaks T j i
 abbrev pub Sooner : ℕ → ℕ → ℕ → ℕ → Type 0
 Sooner m n i j = (m < i) ⊎ ((m ≡ i) × (n < j))
 
--- the lines before i are in range, and i is a line
+-- check 1 passes, i is a line, and the lines before it are in range
 pub record UpTo (T : Table) (i : ℕ) : Type 0 where
   pub counted : Within 1 32 (size T)
-  pub before : (n : ℕ) → n < i → InRange (lineOf T n)
   pub line : i < size T
+  pub before : (n : ℕ) → n < i → InRange (lineOf T n)
 
 -- i and j are the first pair that breaks the rule, the first below the second
 pub record FirstClash (T : Table) (i j : ℕ) : Type 0 where
@@ -121,7 +135,7 @@ pub record FirstClash (T : Table) (i j : ℕ) : Type 0 where
   pub clash : Clash T i j
   pub none-sooner : (m n : ℕ) → m < n → n < size T → Sooner m n i j → Clash T m n → ⊥
 
--- number and lines named: given exactly when
+-- each answer of the check, with its condition
 pub data Found (T : Table) : Verdict → Type 0 where
   row-1 : (Within 1 32 (size T) → ⊥) → Found T (verdict 1 [])
   row-2 : (i : ℕ) → UpTo T i → (DeadlineInRange (lineOf T i) → ⊥) → Found T (verdict 2 (i ∷ []))
@@ -130,6 +144,7 @@ pub data Found (T : Table) : Verdict → Type 0 where
   row-5 : (i j : ℕ) → Passes T → FirstClash T i j → Found T (verdict 5 (i ∷ j ∷ []))
   row-0 : Keeps T → Found T (verdict 0 [])
 
+-- it is given exactly then
 abbrev pub CheckExact : Type 0
 CheckExact = (T : Table) (v : Verdict) → (check T ≡ v) ↔ (Found T v)
 
@@ -147,8 +162,8 @@ _when_ k c = record { number = k; condition = c }
 abbrev pub BadTick : Tick → Tick → Type 0
 BadTick last t = (t .0 < last .0) ⊎ (4611686018427387903 < t .0)
 
-abbrev pub NothingRuns : View → Type 0
-NothingRuns v = v .runs ≡ none
+abbrev pub NothingRuns : Option ℕ → Type 0
+NothingRuns r = r ≡ none
 
 abbrev pub NoLine : Table → ℕ → Type 0
 NoLine T n = size T ≤ n
@@ -172,22 +187,39 @@ rows T v (Activate t n) =
     ∷ 10 when NoRoom (v .pending)
     ∷ 9 when OutOfReach T t n
     ∷ []
-rows T v (Terminate t) = 8 when BadTick (v .last) t ∷ 2 when NothingRuns v ∷ []
+rows T v (Terminate t) = 8 when BadTick (v .last) t ∷ 2 when NothingRuns (v .runs) ∷ []
 rows T v (Chain t n) =
     8 when BadTick (v .last) t
-    ∷ 2 when NothingRuns v
+    ∷ 2 when NothingRuns (v .runs)
     ∷ 3 when NoLine T n
     ∷ 4 when AtLimit T n (v .others)
     ∷ 9 when OutOfReach T t n
     ∷ []
 
--- each row's number is given exactly when no earlier row applies and its condition holds; 0 exactly when none applies
+-- each row's number is given exactly when its condition holds and no earlier row applies (`none-yet`); 0 exactly when none applies
 abbrev pub Exact : List Row → Type 0 → ℕ → Type 0
 Exact [] none-yet k = (k ≡ 0) ↔ none-yet
 Exact (r ∷ rs) none-yet k = ((k ≡ r .number) ↔ (none-yet × r .condition)) × Exact rs (none-yet × (r .condition → ⊥)) k
 
+-- of the layer: its last accepted tick, the task that runs, the tasks pending, and those without the job that runs
 abbrev pub RefusalsExact : Type 0
-RefusalsExact = (T : Table) (v : View) (e : Call) → Exact (rows T v e) (Unit {0}) (refusal T v e)
+RefusalsExact =
+    (T : Table) (b : Board) (e : Call)
+    → Exact
+    (rows T (record { last = b .last; runs = running T b; pending = tasks (b .jobs); others = tasks (without (running T b) (b .jobs)) }) e)
+    (Unit {0}) (result T b e)
+
+-- of the plain scheduler likewise
+abbrev pub PlainRefusalsExact : Type 0
+PlainRefusalsExact =
+    (T : Table) (p : Plain) (e : Call)
+    → Exact
+    (rows T (record { last = p .last; runs = plainRuns T (p .pending); pending = plainTasks (p .pending); others = plainTasks (plainOthers T (p .pending)) }) e)
+    (Unit {0}) (plainResult T p e)
+
+-- the last accepted call's tick, 0 before the first
+abbrev pub LastAccepted : Type 0
+LastAccepted = (T : Table) (calls : List Call) → (run T fresh calls) .last ≡ lastOr (record { 0 = 0 }) (ticks T calls)
 
 -- a refused call changes nothing, and reports the unchanged running job, no kernel call and no late job
 pub record Unchanged (T : Table) (h : Head) (e : Call) : Type 0 where
@@ -203,11 +235,12 @@ NoTen = (T : Table) → Passes T → (calls : List Call) (e : Call) → result T
 
 -- ==== the list and its releases, on any table
 
--- the tasks of the released jobs, the last of the list first
+-- task n behind q, if its job is released
 abbrev pub pushed : Phase → ℕ → List ℕ → List ℕ
 pushed Delayed n q = q
 pushed Released n q = q ++ (n ∷ [])
 
+-- the tasks of the released jobs, from the back of the list to its front
 abbrev pub releasedOf : List Job → List ℕ
 releasedOf [] = []
 releasedOf (j ∷ l) = pushed (j .phase) (j .task) (releasedOf l)
@@ -216,8 +249,9 @@ abbrev pub FirstReleased : List Job → Type 0
 FirstReleased [] = Unit {0}
 FirstReleased (j ∷ l) = j .phase ≡ Released
 
--- the list is in order; its first job is released; the ready queue is the released jobs from back to front; of a task at most one is released
+-- every job is due its D after its activation; the list is in order; its first job is released; the ready queue is the released jobs from back to front; of a task at most one is released
 pub record Listed (T : Table) (b : Board) : Type 0 where
+  pub dues : All (λ (j : Job). j .due .0 ≡ j .since .0 + (deadlineOf T (j .task)) .0) (b .jobs)
   pub ordered : Pairs (λ (j k : Job). Before T (bare k) (bare j) → ⊥) (b .jobs)
   pub first : FirstReleased (b .jobs)
   pub queue : b .ready ≡ releasedOf (b .jobs)
@@ -237,23 +271,52 @@ pub record Running (T : Table) (b : Board) : Type 0 where
   pub runs : runningJob T b ≡ some job
   pub others : without (running T b) (b .jobs) ≡ front ++ back
 
--- none exactly when nothing is pending
+-- nothing is pending and nothing runs, or a released job runs
 abbrev pub RunsReleased : Type 0
 RunsReleased =
     (T : Table) (calls : List Call)
     → (((run T fresh calls) .jobs ≡ []) × (runningJob T (run T fresh calls) ≡ none)) ⊎ (Running T (run T fresh calls))
 
--- m is the list l with a new job j: behind all those that it does not go before, in front of all others
-pub record Inserted (T : Table) (j : Job) (l m : List Job) : Type 0 where
-  pub front : List Job
-  pub back : List Job
+-- m is the list l with a new job j: behind all that it does not go before, in front of all that it goes before
+pub record Inserted (T : Table) (j : Pending) (l m : List Pending) : Type 0 where
+  pub front : List Pending
+  pub back : List Pending
   pub was : l ≡ front ++ back
   pub is : m ≡ front ++ (j ∷ back)
-  pub behind : All (λ (k : Job). Before T (bare j) (bare k) → ⊥) front
-  pub ahead : All (λ (k : Job). Before T (bare j) (bare k)) back
+  pub behind : All (λ (k : Pending). Before T j k → ⊥) front
+  pub ahead : All (λ (k : Pending). Before T j k) back
 
-abbrev pub InsertsBehind : Type 0
-InsertsBehind = (T : Table) (calls : List Call) (j : Job) → Inserted T j ((run T fresh calls) .jobs) (insert (before T) j ((run T fresh calls) .jobs))
+-- the list after an accepted call
+abbrev pub ListAfter : Table → Board → Call → List Pending → Type 0
+ListAfter T b (Wait t) m = m ≡ map bare (b .jobs)
+ListAfter T b (Activate t n) m = Inserted T (jobOf T t n) (map bare (b .jobs)) m
+ListAfter T b (Terminate t) m = m ≡ map bare (without (running T b) (b .jobs))
+ListAfter T b (Chain t n) m = Inserted T (jobOf T t n) (map bare (without (running T b) (b .jobs))) m
+
+abbrev pub ListMoves : Type 0
+ListMoves =
+    (T : Table) (calls : List Call) (e : Call) → result T (run T fresh calls) e ≡ 0
+    → ListAfter T (run T fresh calls) e (map bare ((next T (run T fresh calls) e) .jobs))
+
+-- the kernel calls that an accepted call may make
+abbrev pub CallFits : Call → KernelCall → Type 0
+CallFits (Wait t) k = k ≡ NoCall
+CallFits (Activate t n) k = (k ≡ NoCall) ⊎ (k ≡ ActivateTask n)
+CallFits (Terminate t) k = (k ≡ TerminateTask) ⊎ ((n : ℕ) × (k ≡ ChainTask n))
+CallFits (Chain t n) k = (k ≡ TerminateTask) ⊎ ((m : ℕ) × (k ≡ ChainTask m))
+
+abbrev pub firstTask : List Job → Option ℕ
+firstTask [] = none
+firstTask (j ∷ l) = some (j .task)
+
+-- the kernel call returned is the one that was made, it fits the call, and it starts the first job of the list or none
+pub record CallMade (T : Table) (b : Board) (e : Call) : Type 0 where
+  pub made : (next T b e) .ready ≡ kernel (running T b) ((answer T b e) .call) (b .ready)
+  pub fits : result T b e ≡ 0 → CallFits e ((answer T b e) .call)
+  pub starts-first : All (λ n. firstTask ((next T b e) .jobs) ≡ some n) (startedBy T b e)
+
+abbrev pub CallsMade : Type 0
+CallsMade = (T : Table) (b : Board) (e : Call) → CallMade T b e
 
 -- a job is released by exactly one kernel call: of each task as many were started as ended and are released now. Nothing starts twice, nothing released vanishes
 abbrev pub StartedOnce : Type 0
@@ -275,40 +338,49 @@ ApartPriorities =
     → Pairs (λ (j k : Job). j .phase ≡ Released → k .phase ≡ Released → priorityOf T (j .task) ≡ priorityOf T (k .task) → ⊥)
     ((run T fresh calls) .jobs)
 
--- ==== late jobs and counts
+-- ==== late jobs and counts, on a table that passes checks 1 to 4
 
--- the mark need not be kept: newly late are those whose deadline was not past at the last accepted call and is past at this one
-abbrev pub LateIsCheap : Type 0
-LateIsCheap =
+-- every late job is reported once and no other: of the jobs that pass any test, as many were reported as ended past their deadline, and are pending with a deadline that the last accepted call was past
+abbrev pub LateOnce : Type 0
+LateOnce =
+    (T : Table) → Passes T → (calls : List Call) (test : Pending → Bool)
+    → countBy test (reports T calls)
+    ≡ countBy (λ (x : Ended). ltb (x .job .due .0) (x .tick .0) && test (x .job)) (endings T calls)
+    + countBy (λ (j : Job). ltb (j .due .0) ((run T fresh calls) .last .0) && test (bare j)) ((run T fresh calls) .jobs)
+
+-- so each accepted job is reported at most once
+abbrev pub ReportedOnce : Type 0
+ReportedOnce =
+    (T : Table) → Passes T → (calls : List Call) (test : Pending → Bool)
+    → countBy test (reports T calls) ≤ countBy test (acceptances T calls)
+
+-- at the first such call: newly late are those whose deadline this call is past and the last accepted one was not. So no mark need be kept
+abbrev pub LateNeedsNoMark : Type 0
+LateNeedsNoMark =
     (T : Table) → Passes T → (calls : List Call) (t : Tick)
     → newlyLate t ((run T fresh calls) .jobs) ≡ only (fallsLate ((run T fresh calls) .last) t) ((run T fresh calls) .jobs)
 
--- each accepted job is reported at most once: of the jobs that pass any test, no more were reported than accepted
-abbrev pub ReportedOnce : Type 0
-ReportedOnce =
-    (T : Table) (calls : List Call) (test : Pending → Bool)
-    → countBy test (reports T calls) ≤ countBy test (acceptances T calls)
-
--- their count and task numbers, in 32 places, unused places 0
-pub record Places (tasks : List ℕ) (late : Late) : Type 0 where
-  pub counted : late .count ≡ length tasks
+-- count and task numbers of the jobs l, in 32 places, unused places 0
+pub record Places (l : List Pending) (late : Late) : Type 0 where
+  pub counted : late .count ≡ length l
   pub unused : List ℕ
-  pub placed : late .tasks ≡ tasks ++ unused
+  pub placed : late .tasks ≡ map (λ (j : Pending). j .task) l ++ unused
   pub zeros : All (λ n. n ≡ 0) unused
   pub in-all : length (late .tasks) ≡ 32
 
+-- so an answer has the newly late jobs
 abbrev pub PlacesSuffice : Type 0
-PlacesSuffice = (T : Table) → Passes T → (calls : List Call) (e : Call) → Places (lateTasks T (run T fresh calls) e) ((answer T (run T fresh calls) e) .late)
+PlacesSuffice = (T : Table) → Passes T → (calls : List Call) (e : Call) → Places (reportedBy T (run T fresh calls) e) ((answer T (run T fresh calls) e) .late)
 
 -- what the accepted calls of a sequence add up to, for task n
 abbrev pub addedUp : Table → List Call → ℕ → Tally
 addedUp T calls n =
     record {
-      late = min (count n (lates T calls)) 4294967295;
+      late = min (countBy (λ (j : Pending). eqb n (j .task)) (reports T calls)) 4294967295;
       ended = min (endedOf n (endings T calls)) 4294967295;
       response = greatestOf n (endings T calls);
     }
 
--- the counts follow from the accepted calls
+-- the counts follow from the accepted calls, on any table
 abbrev pub CountsAddUp : Type 0
 CountsAddUp = (T : Table) (calls : List Call) (n : ℕ) → n < 32 → getD ((headRun T freshHead calls) .tallies) n noTally ≡ addedUp T calls n

@@ -9,17 +9,18 @@ use Rattle.rules.specs.declared.Span.{Span}
 use Rattle.rules.specs.declared.Line.{Line}
 use Rattle.rules.specs.Words.{Within, within}
 
--- what a board is set up with: its task lines
+-- the task table: its lines. A line's place from 0 is its task number
 pub record Table : Type 0 where
   pub lines : List Line
 
 abbrev pub size : Table → ℕ
 size T = length (T .lines)
 
--- the line of task n; past the last line, one of zeros
+-- stands for a line that is not there
 abbrev pub noLine : Line
 noLine = record { deadline = record { 0 = 0 }; priority = 0; limit = 0 }
 
+-- the line of task n
 abbrev pub lineOf : Table → ℕ → Line
 lineOf T n = getD (T .lines) n noLine
 
@@ -86,7 +87,7 @@ abbrev pub fine : Verdict
 fine = verdict 0 []
 
 infixr 10 _then_
--- `w` where `v` found nothing
+-- the first answer, or the second where the first is 0
 unfoldable pub _then_ : Verdict → Verdict → Verdict
 _then_ v w = elim (v .number) [ zero ↦ w | suc n ↦ v ]
 

@@ -10,7 +10,7 @@ unfoldable pub _if_else_ : ℕ → Bool → ℕ → ℕ
 _if_else_ n true m = n
 _if_else_ n false m = m
 
--- what an answer's number leaves: the new value at 0, the old one at a refusal
+-- `unless k old new`: the new value where the number k is 0, the old one where it is a refusal
 abbrev pub unless {ℓ} : {A : Type ℓ} → ℕ → A → A → A
 unless zero old new = new
 unless (suc r) old new = old
@@ -36,10 +36,15 @@ abbrev pub only {ℓ} : {A : Type ℓ} → (A → Bool) → List A → List A
 only f [] = []
 only f (a ∷ l) = cond (f a) (a ∷ only f l) (only f l)
 
--- a new element goes in behind all those that it does not go before
+-- a new element goes in front of the first one that it goes before, or to the end
 abbrev pub insertBy {ℓ} : {A : Type ℓ} → (A → A → Bool) → A → List A → List A
 insertBy goes a [] = a ∷ []
 insertBy goes a (b ∷ l) = cond (goes a b) (a ∷ b ∷ l) (b ∷ insertBy goes a l)
+
+-- the last element, or d where there is none
+abbrev pub lastOr {ℓ} : {A : Type ℓ} → A → List A → A
+lastOr d [] = d
+lastOr d (a ∷ l) = lastOr a l
 
 -- a fact of every element
 abbrev pub All {ℓ} : {A : Type ℓ} → (A → Type 0) → List A → Type 0

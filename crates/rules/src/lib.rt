@@ -20,7 +20,7 @@ pub enum Phase {
     Released,
 }
 
-// A pending job as a list keeps it. It was activated its relative deadline before it is due.
+// A pending job as a list keeps it. Its activation tick is its deadline less its task's D. (`Job` of specs/Jobs also says that tick, and more.)
 pub struct Job {
     pub task: u8,
     pub due: Tick,
@@ -76,7 +76,7 @@ pub enum NumberRead {
     Refused(u8),
 }
 
-// Does nothing: its contract is where a check holds the crate to its claims.
+// Does nothing. Its contract is all of specs/Claims, so that a claim without a proof fails the check.
 pub fn rules_hold()
     ensures { λ r. ⌜ Claims ⌝ }
 {}
