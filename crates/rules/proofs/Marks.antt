@@ -55,12 +55,12 @@ only-alike : (f g : Job → Bool) (l : List Job) → All (λ (j : Job). f j ≡ 
 only-alike f g [] h = refl
 only-alike f g (j ∷ l) h = λ i. cond (h .0 i) (j ∷ only-alike f g l (h .1) i) (only-alike f g l (h .1) i)
 
-pub late-cheap : (s t : Tick) (l : List Job) → All (Marked s) l → newlyLate t l ≡ only (fallsLate s t) l
-late-cheap s t l h = only-alike (λ (j : Job). isLate t j && not (j .reported)) (fallsLate s t) l (each l h)
+pub late-unmarked : (s t : Tick) (l : List Job) → All (Marked s) l → newlyLate t l ≡ only (fallsLate s t) l
+late-unmarked s t l h = only-alike (λ (j : Job). isLate t j && not (j .reported)) (fallsLate s t) l (each l h)
   where
     each : (l : List Job) → All (Marked s) l → All (λ (j : Job). (isLate t j && not (j .reported)) ≡ fallsLate s t j) l
     each [] h = tt
     each (j ∷ l) h = (ap (λ z. isLate t j && not z) (h .0 .mark) ∙ falls-late s t (j .due), each l (h .1))
 
 pub late-needs-no-mark : LateNeedsNoMark
-late-needs-no-mark T p calls t = late-cheap ((run T fresh calls) .last) t ((run T fresh calls) .jobs) (fresh-marked T p calls)
+late-needs-no-mark T p calls t = late-unmarked ((run T fresh calls) .last) t ((run T fresh calls) .jobs) (fresh-marked T p calls)

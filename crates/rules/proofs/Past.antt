@@ -23,7 +23,7 @@ pub not-past-yet : (T : Table) → Passes T → (t : Tick) (n : ℕ) → n < siz
 unfolding isPast
 not-past-yet T p t n known = sym (le-ltb ((plus t (deadlineOf T n)) .0) (t .0) (omega arith))
 
--- past at t, and not at s: the cheap test
+-- past at t, and not at s: the test without a mark
 pub falls-late : (s t due : Tick) → (isPast t due && not (isPast s due)) ≡ (leb (s .0) (due .0) && ltb (due .0) (t .0))
 unfolding isPast
 falls-late s t due = and-comm (ltb (due .0) (t .0)) (not (ltb (due .0) (s .0))) ∙ ap (λ z. z && ltb (due .0) (t .0)) (go (ltb (due .0) (s .0)) refl)
