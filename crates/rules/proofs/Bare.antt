@@ -17,7 +17,7 @@ use Rattle.rules.specs.Late.{markedAt}
 use Rattle.rules.specs.Layer.{isFirst, insert, without, settled, settledBy, entered, moved, tasks}
 use Rattle.rules.specs.Plain.{plainTasks}
 use Rattle.rules.proofs.Lists.{map-insert}
-use Rattle.rules.proofs.Moves.{without-reported}
+use Rattle.rules.proofs.Moves.{without-marked}
 
 pub tasks-bare : (l : List Job) → tasks l ≡ plainTasks (map bare l)
 tasks-bare [] = refl
@@ -53,8 +53,8 @@ moved-bare T r l (Activate t n) =
     entered-bare T (accepted T t n) (map (markedAt t) l) (isFirst (before T) (accepted T t n) (map (markedAt t) l))
     ∙ ap (insertBy (before T) (accepted T t n)) (marked-bare t l)
 moved-bare T r l (Terminate t) =
-    settled-bare (without r (map (markedAt t) l)) ∙ ap (map bare) (without-reported t r l) ∙ marked-bare t (without r l)
+    settled-bare (without r (map (markedAt t) l)) ∙ ap (map bare) (without-marked t r l) ∙ marked-bare t (without r l)
 moved-bare T r l (Chain t n) =
     settled-bare (insert (before T) (newJob Delayed (accepted T t n)) (without r (map (markedAt t) l)))
     ∙ map-insert bare (before T) (newJob Delayed (accepted T t n)) (without r (map (markedAt t) l))
-    ∙ ap (insertBy (before T) (accepted T t n)) (ap (map bare) (without-reported t r l) ∙ marked-bare t (without r l))
+    ∙ ap (insertBy (before T) (accepted T t n)) (ap (map bare) (without-marked t r l) ∙ marked-bare t (without r l))

@@ -11,8 +11,7 @@ use Rattle.rules.specs.declared.Phase.{Phase}
 use Rattle.rules.specs.declared.Phase.the-variants.{Delayed, Released}
 use Rattle.rules.specs.declared.Call.{Call}
 use Rattle.rules.specs.declared.Call.the-variants.{Wait, Activate, Terminate, Chain}
-use Rattle.rules.specs.declared.KernelCall.{KernelCall}
-use Rattle.rules.specs.declared.KernelCall.the-variants.{NoCall, ActivateTask, ChainTask, TerminateTask}
+use Rattle.rules.specs.declared.KernelCall.the-variants.{NoCall, ActivateTask}
 use Rattle.rules.specs.Words.{unless, lastOr, All}
 use Rattle.rules.specs.Table.{Table}
 use Rattle.rules.specs.Jobs.{Job, Pending, accepted, newJob, before}
@@ -21,18 +20,15 @@ use Rattle.rules.specs.Calls.{tickOf}
 use Rattle.rules.specs.Layer.{Board, fresh, insert, isFirst, without, settled, settledBy, entered, running, moves, marked, done, result, next}
 use Rattle.rules.specs.Run.{run}
 use Rattle.rules.specs.History.{along, ifAccepted, starts}
-use Rattle.rules.specs.Statement.{CallFits, firstTask, CallsMade, LastAccepted}
+use Rattle.rules.specs.Statement.{Ends, CallFits, firstTask, CallsMade, LastAccepted}
 use Rattle.rules.proofs.Invariant.{insert-first}
 
 -- once the running job has left
-abbrev Leaves : KernelCall → Type 0
-Leaves k = (k ≡ TerminateTask) ⊎ ((n : ℕ) × (k ≡ ChainTask n))
-
-settled-fits : (l : List Job) → Leaves ((settled l) .call)
+settled-fits : (l : List Job) → Ends ((settled l) .call)
 settled-fits [] = inl refl
 settled-fits (j ∷ l) = go (j .phase)
   where
-    go : (s : Phase) → Leaves ((settledBy s j l) .call)
+    go : (s : Phase) → Ends ((settledBy s j l) .call)
     go Delayed = inr (j .task, refl)
     go Released = inl refl
 

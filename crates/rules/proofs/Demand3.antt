@@ -3,7 +3,7 @@ use Prim.Native.Nat.{ℕ, zero, suc}
 use mathlib.Core.Path.{_≡_, refl, ap, sym, _∙_, subst}
 use mathlib.Core.Logic.{_↔_}
 use mathlib.Core.List.{List, [], _∷_, map}
-use lib.ListN.{length}
+use lib.ListN.{length, length-map}
 use lib.Dec.{eqb}
 use Rattle.rules.specs.declared.Tick.{Tick}
 use Rattle.rules.specs.declared.Call.{Call}
@@ -17,14 +17,14 @@ use Rattle.rules.specs.Calls.{View, refusal, tickOf}
 use Rattle.rules.specs.Layer.{Board, fresh, without, moves, marked, done, next, result, viewed, shown, choice, running, runningJob, tasks}
 use Rattle.rules.specs.Plain.{Plain, start, plainOthers, plainRuns, plainTasks, plainViewed, plainResult, plainMoved, plainNext, plainRun, plainChoice}
 use Rattle.rules.specs.Run.{run}
-use Rattle.rules.specs.Statement.{Agree, Demand3, Demand3-answers}
+use Rattle.rules.specs.Statement.{firstTask, Agree, Demand3, Demand3-answers}
 use Rattle.rules.proofs.Lists.{rest-of, count-map}
 use Rattle.rules.proofs.Bare.{tasks-bare, bare-after, moved-bare}
 use Rattle.rules.proofs.Order.{Higher, ranks}
 use Rattle.rules.proofs.Sorted.{sorted, runs-of, task-of, choice-sorted, others-sorted, runs-sorted, count-sorted, length-sorted}
 use Rattle.rules.proofs.Invariant.{Good}
 use Rattle.rules.proofs.Step.{done-good}
-use Rattle.rules.proofs.First.{first-of, first-task, top-first, leaves, runs-first}
+use Rattle.rules.proofs.First.{first-of, top-first, leaves, runs-first}
 
 -- the layer's list is the plain scheduler's jobs in order
 pub record Related (T : Table) (b : Board) (p : Plain) : Type 0 where
@@ -52,7 +52,7 @@ module _ (T : Table) (v w : View) (a : v .last ≡ w .last) where
 
 -- ---- a list of jobs and what the plain scheduler knows of them
 
-first-bare : (l : List Job) → first-task l ≡ task-of (map bare l)
+first-bare : (l : List Job) → firstTask l ≡ task-of (map bare l)
 first-bare [] = refl
 first-bare (j ∷ l) = refl
 
@@ -63,10 +63,6 @@ shown-bare (j ∷ l) = refl
 rest-bare : (l : List Job) → map bare (rest-of l) ≡ rest-of (map bare l)
 rest-bare [] = refl
 rest-bare (j ∷ l) = refl
-
-length-tasks : (p : List Pending) → length (plainTasks p) ≡ length p
-length-tasks [] = refl
-length-tasks (j ∷ p) = ap suc (length-tasks p)
 
 count-tasks : (T : Table) (n : ℕ) (l : List Job) (p : List Pending) → map bare l ≡ sorted T p → count n (tasks l) ≡ count n (plainTasks p)
 count-tasks T n l p e =
@@ -91,7 +87,7 @@ module _ (T : Table) (keeps : Keeps T) (b : Board) (p : Plain) (g : Good T (High
   results-alike (Wait t) = alike-wait T (viewed T b) (plainViewed T p) (r .last) t
   results-alike (Activate t n) =
       alike-activate T (viewed T b) (plainViewed T p) (r .last) t n (count-tasks T n (b .jobs) (p .pending) (r .list))
-      (ap length (tasks-bare (b .jobs) ∙ ap plainTasks (r .list)) ∙ length-tasks (sorted T (p .pending)) ∙ length-sorted T (p .pending) ∙ sym (length-tasks (p .pending)))
+      (ap length (tasks-bare (b .jobs) ∙ ap plainTasks (r .list)) ∙ length-map (sorted T (p .pending)) (λ (j : Pending). j .task) ∙ length-sorted T (p .pending) ∙ sym (length-map (p .pending) (λ (j : Pending). j .task)))
   results-alike (Terminate t) = alike-end T (viewed T b) (plainViewed T p) (r .last) t runs-alike
   results-alike (Chain t n) =
       alike-chain T (viewed T b) (plainViewed T p) (r .last) t n runs-alike

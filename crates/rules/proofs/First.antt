@@ -15,7 +15,7 @@ use Rattle.rules.specs.Jobs.{Job, bare}
 use Rattle.rules.specs.Kernel.{dispatched, higher}
 use Rattle.rules.specs.Layer.{isOf, isReleased, runningIn, without, fresh}
 use Rattle.rules.specs.Run.{run}
-use Rattle.rules.specs.Statement.{pushed, releasedOf, ApartPriorities}
+use Rattle.rules.specs.Statement.{firstTask, pushed, releasedOf, ApartPriorities}
 use Rattle.rules.proofs.Lists.{rest-of, all-map}
 use Rattle.rules.proofs.Order.{Higher, ranks}
 use Rattle.rules.proofs.Invariant.{Ordered, GoodOf, behind, not-live}
@@ -24,10 +24,6 @@ use Rattle.rules.proofs.Step.{fresh-good}
 abbrev pub first-of {ℓ} : {A : Type ℓ} → List A → Option A
 first-of [] = none
 first-of (a ∷ l) = some a
-
-abbrev pub first-task : List Job → Option ℕ
-first-task [] = none
-first-task (j ∷ l) = some (j .task)
 
 -- what was released last runs, if all others are lower
 dispatched-last : (T : Table) (n : ℕ) (q : List ℕ) → All (Higher T n) q → dispatched (priorityOf T) (q ++ (n ∷ [])) ≡ some n
@@ -44,7 +40,7 @@ released-is-of j f = ap (λ z. z && isReleased (j .phase)) (eq-eqb (j .task) (j 
 
 -- r is the task that the kernel picks by priority
 module _ (T : Table) (keeps : Keeps T) (now : Tick) where
-  pub top-first : (l : List Job) (q : List ℕ) → GoodOf T (Higher T) now l q → (r : Option ℕ) → r ≡ dispatched (priorityOf T) q → r ≡ first-task l
+  pub top-first : (l : List Job) (q : List ℕ) → GoodOf T (Higher T) now l q → (r : Option ℕ) → r ≡ dispatched (priorityOf T) q → r ≡ firstTask l
   top-first [] q g r top = top ∙ ap (dispatched (priorityOf T)) (g .lined .queue)
   top-first (j ∷ l) q g r top =
       top ∙ ap (dispatched (priorityOf T)) (g .lined .queue)

@@ -55,15 +55,15 @@ pub record GoodOf (T : Table) (P : ℕ → ℕ → Type 0) (now : Tick) (jobs : 
 abbrev pub Good : Table → (ℕ → ℕ → Type 0) → Board → Type 0
 Good T P b = GoodOf T P (b .last) (b .jobs) (b .ready)
 
--- ---- time moves, and late jobs are reported: nothing else changes
+-- ---- time moves, and late jobs are marked: nothing else changes
 
-released-reported : (t : Tick) (l : List Job) → releasedOf (map (markedAt t) l) ≡ releasedOf l
-released-reported t [] = refl
-released-reported t (j ∷ l) = ap (pushed (j .phase) (j .task)) (released-reported t l)
+released-marked : (t : Tick) (l : List Job) → releasedOf (map (markedAt t) l) ≡ releasedOf l
+released-marked t [] = refl
+released-marked t (j ∷ l) = ap (pushed (j .phase) (j .task)) (released-marked t l)
 
-first-reported : (t : Tick) (l : List Job) → FirstReleased l → FirstReleased (map (markedAt t) l)
-first-reported t [] h = h
-first-reported t (j ∷ l) h = h
+first-marked : (t : Tick) (l : List Job) → FirstReleased l → FirstReleased (map (markedAt t) l)
+first-marked t [] h = h
+first-marked t (j ∷ l) h = h
 
 pub marked-good : (T : Table) (P : ℕ → ℕ → Type 0) (s t : Tick) → s .0 ≤ t .0 → (l : List Job) (q : List ℕ) → GoodOf T P s l q → GoodOf T P t (map (markedAt t) l) q
 marked-good T P s t h l q g =
@@ -71,8 +71,8 @@ marked-good T P s t h l q g =
       sound = all-over (Sound T s) (Sound T t) (markedAt t) later l (g .sound);
       lined = record {
         ordered = pairs-over (λ j k. Ahead T P (bare j) k) (λ j k. Ahead T P (bare j) k) (markedAt t) (λ j k a. record { order = a .order; over = a .over }) l (g .lined .ordered);
-        first = first-reported t l (g .lined .first);
-        queue = g .lined .queue ∙ sym (released-reported t l);
+        first = first-marked t l (g .lined .first);
+        queue = g .lined .queue ∙ sym (released-marked t l);
       };
     }
   where

@@ -22,6 +22,7 @@ use Rattle.rules.proofs.Lists.{all-insert, count-insert, count-front}
 
 -- ---- the running job leaves, wherever it stands
 
+-- none or one, as a list
 abbrev pub found {ℓ} : {A : Type ℓ} → Option A → List A
 found none = []
 found (some a) = a ∷ []
@@ -62,18 +63,18 @@ count-leaves g (some n) (j ∷ l) = go (isOf n j) (count-leaves g (some n) l)
 pub count-without : (g : Job → Bool) (r : Option ℕ) (l : List Job) → countBy g (without r l) ≤ countBy g l
 count-without g r l = omega (arith, count-leaves g r l)
 
--- it is the same job whether late ones were reported or not
-pub without-reported : (t : Tick) (r : Option ℕ) (l : List Job) → without r (map (markedAt t) l) ≡ map (markedAt t) (without r l)
-without-reported t none l = refl
-without-reported t (some n) [] = refl
-without-reported t (some n) (j ∷ l) = go (isOf n j) (without-reported t (some n) l)
+-- it is the same job whether late ones were marked or not
+pub without-marked : (t : Tick) (r : Option ℕ) (l : List Job) → without r (map (markedAt t) l) ≡ map (markedAt t) (without r l)
+without-marked t none l = refl
+without-marked t (some n) [] = refl
+without-marked t (some n) (j ∷ l) = go (isOf n j) (without-marked t (some n) l)
   where
     go : (s : Bool) → without (some n) (map (markedAt t) l) ≡ map (markedAt t) (without (some n) l)
         → cond s (map (markedAt t) l) (markedAt t j ∷ without (some n) (map (markedAt t) l)) ≡ map (markedAt t) (cond s l (j ∷ without (some n) l))
     go true ih = refl
     go false ih = ap (λ z. markedAt t j ∷ z) ih
 
--- so is what is found
+-- so is the job found
 pub found-marked : (t : Tick) (r : Option ℕ) (l : List Job) → found (runningIn r (map (markedAt t) l)) ≡ map (markedAt t) (found (runningIn r l))
 found-marked t none l = refl
 found-marked t (some n) [] = refl
@@ -95,6 +96,7 @@ all-found Q (some n) (j ∷ l) h = go (isOf n j) (all-found Q (some n) l (h .1))
 
 -- ---- what stays
 
+-- the jobs that a call does not end
 abbrev pub staying : Option ℕ → List Job → Call → List Job
 staying r l (Wait t) = l
 staying r l (Activate t n) = l

@@ -8,12 +8,13 @@ use Rattle.rules.specs.Words.{All}
 use Rattle.rules.specs.Table.{Table, Keeps, Verdict, fine, check}
 use Rattle.rules.specs.Layer.{Board, fresh, without, running, runningJob}
 use Rattle.rules.specs.Run.{run, Head, freshHead, headNext, headRun, Reached}
+use Rattle.rules.specs.Statement.{firstTask}
 use Rattle.rules.proofs.Lists.{rest-of}
 use Rattle.rules.proofs.Checked.{keeps-found}
 use Rattle.rules.proofs.Order.{Higher, ranks}
 use Rattle.rules.proofs.Invariant.{Good}
 use Rattle.rules.proofs.Step.{fresh-good}
-use Rattle.rules.proofs.First.{first-of, first-task, top-first, leaves, runs-first}
+use Rattle.rules.proofs.First.{first-of, top-first, leaves, runs-first}
 use Rattle.rules.proofs.Room.{room-for-all}
 use Rattle.rules.proofs.Marks.{Marked, fresh-marked}
 
@@ -51,7 +52,7 @@ module _ (T : Table) (h : Head) (r : Reached T h) where
   reached-room = subst⁻¹ (λ (z : Board). length (z .jobs) ≤ 32) reached-board (room-for-all T (keeps .passes) (r .calls))
 
   -- the first job runs, and leaves when it ends
-  pub reached-task : running T (h .board) ≡ first-task (h .board .jobs)
+  pub reached-task : running T (h .board) ≡ firstTask (h .board .jobs)
   reached-task = top-first T keeps (h .board .last) (h .board .jobs) (h .board .ready) reached-good (running T (h .board)) refl
 
   pub reached-runs : runningJob T (h .board) ≡ first-of (h .board .jobs)

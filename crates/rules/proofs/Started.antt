@@ -51,18 +51,18 @@ ending-count n t (some m) (j ∷ l) = go (isOf m j) refl (ending-count n t (some
     go false e ih = push (j .phase) (releasedOf (without (some m) l)) (releasedOf l) (endedOf n (endedAt t (runningIn (some m) l))) ih
 
 -- what is chained to is started
-settled-count : (n : ℕ) (r : Option ℕ) (q : List ℕ) (l : List Job) → count n (starts ((settled l) .call)) + count n (dequeued r q) ≡ count n (kernel r ((settled l) .call) q)
-settled-count n r q [] = omega arith
-settled-count n r q (j ∷ l) = go (j .phase)
+settled-starts : (n : ℕ) (r : Option ℕ) (q : List ℕ) (l : List Job) → count n (starts ((settled l) .call)) + count n (dequeued r q) ≡ count n (kernel r ((settled l) .call) q)
+settled-starts n r q [] = omega arith
+settled-starts n r q (j ∷ l) = go (j .phase)
   where
     go : (s : Phase) → count n (starts ((settledBy s j l) .call)) + count n (dequeued r q) ≡ count n (kernel r ((settledBy s j l) .call) q)
     go Delayed = omega (arith, count-append (eqb n) (dequeued r q) (j .task ∷ []))
     go Released = omega arith
 
-entered-count : (T : Table) (n : ℕ) (r : Option ℕ) (q : List ℕ) (j : Pending) (l : List Job) (f : Bool)
+entered-starts : (T : Table) (n : ℕ) (r : Option ℕ) (q : List ℕ) (j : Pending) (l : List Job) (f : Bool)
     → count n (starts ((entered (before T) j l f) .call)) + count n q ≡ count n (kernel r ((entered (before T) j l f) .call) q)
-entered-count T n r q j l true = omega (arith, count-append (eqb n) q (j .task ∷ []))
-entered-count T n r q j l false = omega arith
+entered-starts T n r q j l true = omega (arith, count-append (eqb n) q (j .task ∷ []))
+entered-starts T n r q j l false = omega arith
 
 module _ (T : Table) (n : ℕ) where
   -- the queue grows by what was started and shrinks by what ended
@@ -78,12 +78,12 @@ module _ (T : Table) (n : ℕ) where
   moves-count b g (Wait t) = refl
   moves-count b g (Activate t m) =
       let l = map (markedAt t) (b .jobs) in
-      let h = entered-count T n (running T b) (b .ready) (accepted T t m) l (isFirst (before T) (accepted T t m) l) in
+      let h = entered-starts T n (running T b) (b .ready) (accepted T t m) l (isFirst (before T) (accepted T t m) l) in
       omega arith
   moves-count b g (Terminate t) =
-      omega (arith, ends-count b g t, settled-count n (running T b) (b .ready) (without (running T b) (map (markedAt t) (b .jobs))))
+      omega (arith, ends-count b g t, settled-starts n (running T b) (b .ready) (without (running T b) (map (markedAt t) (b .jobs))))
   moves-count b g (Chain t m) =
-      omega (arith, ends-count b g t, settled-count n (running T b) (b .ready) (insert (before T) (newJob Delayed (accepted T t m)) (without (running T b) (map (markedAt t) (b .jobs)))))
+      omega (arith, ends-count b g t, settled-starts n (running T b) (b .ready) (insert (before T) (newJob Delayed (accepted T t m)) (without (running T b) (map (markedAt t) (b .jobs)))))
 
   next-count : (b : Board) → Good T Other b → (e : Call)
       → count n (startedBy T b e) + count n (b .ready) ≡ endedOf n (endedBy T b e) + count n ((next T b e) .ready)

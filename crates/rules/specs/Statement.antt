@@ -298,13 +298,18 @@ ListMoves =
     (T : Table) (calls : List Call) (e : Call) → result T (run T fresh calls) e ≡ 0
     → ListAfter T (run T fresh calls) e (map bare ((next T (run T fresh calls) e) .jobs))
 
+-- what ends the running job
+abbrev pub Ends : KernelCall → Type 0
+Ends k = (k ≡ TerminateTask) ⊎ ((n : ℕ) × (k ≡ ChainTask n))
+
 -- the kernel calls that an accepted call may make
 abbrev pub CallFits : Call → KernelCall → Type 0
 CallFits (Wait t) k = k ≡ NoCall
 CallFits (Activate t n) k = (k ≡ NoCall) ⊎ (k ≡ ActivateTask n)
-CallFits (Terminate t) k = (k ≡ TerminateTask) ⊎ ((n : ℕ) × (k ≡ ChainTask n))
-CallFits (Chain t n) k = (k ≡ TerminateTask) ⊎ ((m : ℕ) × (k ≡ ChainTask m))
+CallFits (Terminate t) k = Ends k
+CallFits (Chain t n) k = Ends k
 
+-- the task of the first job
 abbrev pub firstTask : List Job → Option ℕ
 firstTask [] = none
 firstTask (j ∷ l) = some (j .task)
