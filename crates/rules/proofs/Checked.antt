@@ -11,8 +11,11 @@ use native.Mathlib.Nat.{le-of-suc-le-suc, not-suc-le-zero, eq-or-lt-of-le, le-re
 use native.Mathlib.Decide.{decLe, decLt}
 use borrow.Author.Tests.{ltb-true, lt-ltb, le-ltb, leb-true, le-leb}
 use Rattle.rules.specs.declared.Line.{Line}
+use Rattle.rules.specs.declared.Named.{Named}
+use Rattle.rules.specs.declared.Named.the-variants.{NoneNamed, TheLine, BothLines}
+use Rattle.rules.specs.declared.Verdict.{Verdict}
 use Rattle.rules.specs.Words.{Within, within}
-use Rattle.rules.specs.Table.{Table, size, lineOf, noLine, limits, deadlineOf, priorityOf, DeadlineInRange, LimitInRange, InRange, Passes, Rule, Keeps, Verdict, verdict, fine, _then_, refuse, rangesFrom, breaks, pairsWith, pairsFrom, check}
+use Rattle.rules.specs.Table.{Table, size, lineOf, noLine, limits, deadlineOf, priorityOf, DeadlineInRange, LimitInRange, InRange, Passes, Rule, Keeps, verdict, fine, _then_, refuse, rangesFrom, breaks, pairsWith, pairsFrom, check}
 use Rattle.rules.specs.Statement.{Broken, Clash, Sooner, UpTo, Found, row-0, row-1, row-2, row-3, row-4, row-5, CheckExact}
 use Rattle.rules.proofs.Bools.{within-test, and-true-both, and-is-true, or-true-one, or-is-true, by-not, decided}
 
@@ -55,7 +58,7 @@ walk g a (suc n) h step = go (eq-or-lt-of-le h) (walk g a n)
 -- ---- verdicts one behind the other
 
 -- a refusal stays
-then-stop : (n : ℕ) (ls : List ℕ) (v w : Verdict) → v ≡ verdict (suc n) ls → (v then w) ≡ verdict (suc n) ls
+then-stop : (n : ℕ) (ls : Named) (v w : Verdict) → v ≡ verdict (suc n) ls → (v then w) ≡ verdict (suc n) ls
 unfolding _then_
 then-stop n ls v w e = ap (λ (z : Verdict). z then w) e
 
@@ -65,23 +68,23 @@ unfolding _then_
 then-next v w e = ap (λ (z : Verdict). z then w) e
 
 -- a refusal is made where its test says so
-refuse-yes : (n : ℕ) (ls : List ℕ) (t : Bool) → t ≡ true → refuse n ls t ≡ verdict n ls
+refuse-yes : (n : ℕ) (ls : Named) (t : Bool) → t ≡ true → refuse n ls t ≡ verdict n ls
 unfolding refuse
 refuse-yes n ls t e = ap (refuse n ls) e
 
 -- and only there
-refuse-no : (n : ℕ) (ls : List ℕ) (t : Bool) → t ≡ false → refuse n ls t ≡ fine
+refuse-no : (n : ℕ) (ls : Named) (t : Bool) → t ≡ false → refuse n ls t ≡ fine
 unfolding refuse
 refuse-no n ls t e = ap (refuse n ls) e
 
 -- ---- what the tests tell
 
 -- a number out of its range is refused
-refuse-outside : (n : ℕ) (ls : List ℕ) (lo hi x : ℕ) → (Within lo hi x → ⊥) → refuse n ls (not (within lo hi x)) ≡ verdict n ls
+refuse-outside : (n : ℕ) (ls : Named) (lo hi x : ℕ) → (Within lo hi x → ⊥) → refuse n ls (not (within lo hi x)) ≡ verdict n ls
 refuse-outside n ls lo hi x h = refuse-yes n ls (not (within lo hi x)) (ap not (by-not (within lo hi x) (λ e. h (within-test lo hi x .0 e))))
 
 -- and one in its range is not
-refuse-inside : (n : ℕ) (ls : List ℕ) (lo hi x : ℕ) → Within lo hi x → refuse n ls (not (within lo hi x)) ≡ fine
+refuse-inside : (n : ℕ) (ls : Named) (lo hi x : ℕ) → Within lo hi x → refuse n ls (not (within lo hi x)) ≡ fine
 refuse-inside n ls lo hi x w = refuse-no n ls (not (within lo hi x)) (ap not (within-test lo hi x .1 w))
 
 -- the first line is the shorter and not higher
@@ -144,21 +147,21 @@ module _ (T : Table) where
   ranges-next : (n : ℕ) → n < size T → InRange (lineOf T n) → rangesFrom n (from n) ≡ rangesFrom (suc n) (from (suc n))
   ranges-next n h r =
       ap (rangesFrom n) (from-next n h)
-      ∙ then-next _ _ (refuse-inside 2 (n ∷ []) 1 1000000000 _ (r .deadline))
-      ∙ then-next _ _ (refuse-inside 3 (n ∷ []) 1 32 _ (r .limit))
+      ∙ then-next _ _ (refuse-inside 2 (TheLine n) 1 1000000000 _ (r .deadline))
+      ∙ then-next _ _ (refuse-inside 3 (TheLine n) 1 32 _ (r .limit))
 
   -- a line with a bad deadline is named with 2
-  ranges-2 : (n : ℕ) → n < size T → (DeadlineInRange (lineOf T n) → ⊥) → rangesFrom n (from n) ≡ verdict 2 (n ∷ [])
+  ranges-2 : (n : ℕ) → n < size T → (DeadlineInRange (lineOf T n) → ⊥) → rangesFrom n (from n) ≡ verdict 2 (TheLine n)
   ranges-2 n h d =
       ap (rangesFrom n) (from-next n h)
-      ∙ then-stop 1 (n ∷ []) _ _ (refuse-outside 2 (n ∷ []) 1 1000000000 _ d)
+      ∙ then-stop 1 (TheLine n) _ _ (refuse-outside 2 (TheLine n) 1 1000000000 _ d)
 
   -- one with a bad limit only, with 3
-  ranges-3 : (n : ℕ) → n < size T → DeadlineInRange (lineOf T n) → (LimitInRange (lineOf T n) → ⊥) → rangesFrom n (from n) ≡ verdict 3 (n ∷ [])
+  ranges-3 : (n : ℕ) → n < size T → DeadlineInRange (lineOf T n) → (LimitInRange (lineOf T n) → ⊥) → rangesFrom n (from n) ≡ verdict 3 (TheLine n)
   ranges-3 n h d l =
       ap (rangesFrom n) (from-next n h)
-      ∙ then-next _ _ (refuse-inside 2 (n ∷ []) 1 1000000000 _ d)
-      ∙ then-stop 2 (n ∷ []) _ _ (refuse-outside 3 (n ∷ []) 1 32 _ l)
+      ∙ then-next _ _ (refuse-inside 2 (TheLine n) 1 1000000000 _ d)
+      ∙ then-stop 2 (TheLine n) _ _ (refuse-outside 3 (TheLine n) 1 32 _ l)
 
   -- all before n in range: the answer is from n on
   ranges-to : (n : ℕ) → n ≤ size T → ((m : ℕ) → m < n → InRange (lineOf T m)) → rangesFrom 0 (T .lines) ≡ rangesFrom n (from n)
@@ -178,13 +181,13 @@ module _ (T : Table) where
   with-next : (i j : ℕ) → j < size T → (Clash T i j → ⊥) → with-line i j ≡ with-line i (suc j)
   with-next i j h c =
       ap (pairsWith i (lineOf T i) j) (from-next j h)
-      ∙ then-next _ _ (refuse-no 5 (i ∷ j ∷ []) _ (by-not _ (λ e. c (clash-test (lineOf T i) (lineOf T j) .0 e))))
+      ∙ then-next _ _ (refuse-no 5 (BothLines i j) _ (by-not _ (λ e. c (clash-test (lineOf T i) (lineOf T j) .0 e))))
 
   -- a clash with j is named with 5
-  with-stop : (i j : ℕ) → j < size T → Clash T i j → with-line i j ≡ verdict 5 (i ∷ j ∷ [])
+  with-stop : (i j : ℕ) → j < size T → Clash T i j → with-line i j ≡ verdict 5 (BothLines i j)
   with-stop i j h c =
       ap (pairsWith i (lineOf T i) j) (from-next j h)
-      ∙ then-stop 4 (i ∷ j ∷ []) _ _ (refuse-yes 5 (i ∷ j ∷ []) _ (clash-test (lineOf T i) (lineOf T j) .1 c))
+      ∙ then-stop 4 (BothLines i j) _ _ (refuse-yes 5 (BothLines i j) _ (clash-test (lineOf T i) (lineOf T j) .1 c))
 
   -- no clash before n: the answer is from n on
   with-to : (i n : ℕ) → i < n → n ≤ size T → ((j : ℕ) → i < j → j < n → Clash T i j → ⊥) → with-line i (suc i) ≡ with-line i n
@@ -197,10 +200,10 @@ module _ (T : Table) where
       ∙ then-next _ _ (with-to i (size T) h (le-refl (size T)) c ∙ ap (pairsWith i (lineOf T i) (size T)) from-size)
 
   -- the first clash of line i is named with 5
-  pairs-stop : (i j : ℕ) → i < j → j < size T → Clash T i j → ((n : ℕ) → i < n → n < j → Clash T i n → ⊥) → pairsFrom i (from i) ≡ verdict 5 (i ∷ j ∷ [])
+  pairs-stop : (i j : ℕ) → i < j → j < size T → Clash T i j → ((n : ℕ) → i < n → n < j → Clash T i n → ⊥) → pairsFrom i (from i) ≡ verdict 5 (BothLines i j)
   pairs-stop i j l h c none =
       ap (pairsFrom i) (from-next i (omega arith))
-      ∙ then-stop 4 (i ∷ j ∷ []) _ _ (with-to i j l (omega arith) none ∙ with-stop i j h c)
+      ∙ then-stop 4 (BothLines i j) _ _ (with-to i j l (omega arith) none ∙ with-stop i j h c)
 
   -- no clash of a line before n: the answer is from n on
   pairs-to : (n : ℕ) → n ≤ size T → ((i j : ℕ) → i < n → i < j → j < size T → Clash T i j → ⊥) → pairsFrom 0 (T .lines) ≡ pairsFrom n (from n)
@@ -209,20 +212,20 @@ module _ (T : Table) where
   -- ---- the whole check
 
   -- 1 to 32 lines: the lines tell
-  check-2 : Within 1 32 (size T) → check T ≡ (rangesFrom 0 (T .lines) then refuse 4 [] (ltb 32 (limits (T .lines))) then pairsFrom 0 (T .lines))
-  check-2 c = then-next _ _ (refuse-inside 1 [] 1 32 (size T) c)
+  check-2 : Within 1 32 (size T) → check T ≡ (rangesFrom 0 (T .lines) then refuse 4 NoneNamed (ltb 32 (limits (T .lines))) then pairsFrom 0 (T .lines))
+  check-2 c = then-next _ _ (refuse-inside 1 NoneNamed 1 32 (size T) c)
 
   -- and all in range: the sum of the limits tells
-  check-4 : Within 1 32 (size T) → ((n : ℕ) → n < size T → InRange (lineOf T n)) → check T ≡ (refuse 4 [] (ltb 32 (limits (T .lines))) then pairsFrom 0 (T .lines))
+  check-4 : Within 1 32 (size T) → ((n : ℕ) → n < size T → InRange (lineOf T n)) → check T ≡ (refuse 4 NoneNamed (ltb 32 (limits (T .lines))) then pairsFrom 0 (T .lines))
   check-4 c r = check-2 c ∙ then-next _ _ (ranges-fine r)
 
   -- and the sum fits: the pairs tell
   check-5 : Passes T → check T ≡ pairsFrom 0 (T .lines)
-  check-5 p = check-4 (p .counted) (p .ranged) ∙ then-next _ _ (refuse-no 4 [] _ (le-ltb 32 (limits (T .lines)) (p .summed)))
+  check-5 p = check-4 (p .counted) (p .ranged) ∙ then-next _ _ (refuse-no 4 NoneNamed _ (le-ltb 32 (limits (T .lines)) (p .summed)))
 
   -- a line refused with 2 or 3
-  refused-line : (k i : ℕ) → UpTo T i → rangesFrom i (from i) ≡ verdict (suc k) (i ∷ []) → check T ≡ verdict (suc k) (i ∷ [])
-  refused-line k i u e = check-2 (u .counted) ∙ then-stop k (i ∷ []) _ _ (ranges-to i (omega (arith, u .line)) (u .before) ∙ e)
+  refused-line : (k i : ℕ) → UpTo T i → rangesFrom i (from i) ≡ verdict (suc k) (TheLine i) → check T ≡ verdict (suc k) (TheLine i)
+  refused-line k i u e = check-2 (u .counted) ∙ then-stop k (TheLine i) _ _ (ranges-to i (omega (arith, u .line)) (u .before) ∙ e)
 
   -- where the rule is kept no two lines clash
   no-clash : Rule T → (i j : ℕ) → i < size T → j < size T → Clash T i j → ⊥
@@ -242,10 +245,10 @@ module _ (T : Table) where
 
   -- each row's facts give its verdict
   row-is : (v : Verdict) → Found T v → check T ≡ v
-  row-is v (row-1 h) = then-stop 0 [] _ _ (refuse-outside 1 [] 1 32 (size T) h)
+  row-is v (row-1 h) = then-stop 0 NoneNamed _ _ (refuse-outside 1 NoneNamed 1 32 (size T) h)
   row-is v (row-2 i u d) = refused-line 1 i u (ranges-2 i (u .line) d)
   row-is v (row-3 i u d l) = refused-line 2 i u (ranges-3 i (u .line) d l)
-  row-is v (row-4 c r s) = check-4 c r ∙ then-stop 3 [] _ _ (refuse-yes 4 [] _ (lt-ltb 32 (limits (T .lines)) s))
+  row-is v (row-4 c r s) = check-4 c r ∙ then-stop 3 NoneNamed _ _ (refuse-yes 4 NoneNamed _ (lt-ltb 32 (limits (T .lines)) s))
   row-is v (row-5 i j p f) =
       check-5 p
       ∙ pairs-to i (omega (arith, f .below, f .line)) (λ m n a l h. f .none-sooner m n l h (inl a))
@@ -358,5 +361,5 @@ keeps-found T = go (check T) (found T)
     go v (row-0 k) e = k
 
 -- and row 0 gives the answer 0
-pub found-keeps : (T : Table) → Keeps T → check T ≡ verdict 0 []
+pub found-keeps : (T : Table) → Keeps T → check T ≡ verdict 0 NoneNamed
 found-keeps T k = check-exact T fine .1 (row-0 k)

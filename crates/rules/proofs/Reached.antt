@@ -4,8 +4,9 @@ use mathlib.Core.Path.{_≡_, refl, ap, sym, _∙_, subst⁻¹}
 use mathlib.Core.List.{List, [], _∷_, _++_}
 use lib.ListN.{length}
 use Rattle.rules.specs.declared.Call.{Call}
+use Rattle.rules.specs.declared.Verdict.{Verdict}
 use Rattle.rules.specs.Words.{All}
-use Rattle.rules.specs.Table.{Table, Keeps, Verdict, fine, check}
+use Rattle.rules.specs.Table.{Table, Keeps, fine, check}
 use Rattle.rules.specs.Layer.{Board, fresh, without, running, runningJob}
 use Rattle.rules.specs.Run.{run, Head, freshHead, headNext, headRun, Reached}
 use Rattle.rules.specs.Statement.{firstTask}

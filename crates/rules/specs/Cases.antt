@@ -6,6 +6,7 @@ use mathlib.Core.List.{List, [], _∷_}
 use lib.ListN.{take}
 use Rattle.rules.specs.declared.Tick.{Tick}
 use Rattle.rules.specs.declared.Line.{Line}
+use Rattle.rules.specs.declared.Named.the-variants.{NoneNamed, BothLines}
 use Rattle.rules.specs.declared.Phase.{Phase}
 use Rattle.rules.specs.declared.Phase.the-variants.{Delayed, Released}
 use Rattle.rules.specs.declared.Call.{Call}
@@ -70,7 +71,7 @@ abbrev pub twoOfTask0 : List Call
 twoOfTask0 = Activate (at 0) 0 ∷ Activate (at 0) 0 ∷ []
 
 pub record Cases : Type 0 where
-  pub printed-table : check tableP ≡ verdict 0 []
+  pub printed-table : check tableP ≡ verdict 0 NoneNamed
   pub printed-run :
       answers tableP fresh printed
       ≡ says 0 (Runs 0 (at 3)) (ActivateTask 0) []
@@ -92,19 +93,19 @@ pub record Cases : Type 0 where
       answers tableP fresh (Activate (at 0) 1 ∷ Activate (at 1) 0 ∷ Terminate (at 2) ∷ [])
       ≡ says 0 (Runs 1 (at 5)) (ActivateTask 1) [] ∷ says 0 (Runs 0 (at 4)) (ActivateTask 0) [] ∷ says 0 (Runs 1 (at 5)) TerminateTask [] ∷ []
   pub c-behind-its-equal : (run tableP fresh twoOfTask0) .jobs ≡ job 0 0 3 Released ∷ job 0 0 3 Delayed ∷ []
-  pub d-accepted : check tableD ≡ verdict 0 []
+  pub d-accepted : check tableD ≡ verdict 0 NoneNamed
   pub d-own-deadlines :
       answers tableD fresh (Activate (at 21) 0 ∷ Activate (at 22) 1 ∷ [])
       ≡ says 0 (Runs 0 (at 31)) (ActivateTask 0) [] ∷ says 0 (Runs 0 (at 31)) NoCall [] ∷ []
   pub d-second-waits :
       (run tableD fresh (Activate (at 21) 0 ∷ Activate (at 22) 1 ∷ [])) .jobs ≡ job 0 21 31 Released ∷ job 1 22 34 Delayed ∷ []
-  pub e-refused : check tableE ≡ verdict 5 (0 ∷ 1 ∷ [])
+  pub e-refused : check tableE ≡ verdict 5 (BothLines 0 1)
   pub e-kernel : choice tableE (run tableE fresh longerFirst) ≡ Runs 1 (at 5)
   pub e-plain : plainChoice tableE ((plainRun tableE start longerFirst) .pending) ≡ Runs 0 (at 3)
-  pub f-refused : check tableF ≡ verdict 5 (0 ∷ 1 ∷ [])
+  pub f-refused : check tableF ≡ verdict 5 (BothLines 0 1)
   pub f-kernel : choice tableF (run tableF fresh longerFirst) ≡ Runs 1 (at 5)
   pub f-plain : plainChoice tableF ((plainRun tableF start longerFirst) .pending) ≡ Runs 0 (at 3)
-  pub g-accepted : check (table (line 5 2 1 ∷ line 5 2 1 ∷ [])) ≡ verdict 0 []
+  pub g-accepted : check (table (line 5 2 1 ∷ line 5 2 1 ∷ [])) ≡ verdict 0 NoneNamed
   pub h-chain : answer tableP (run tableP fresh twoOfTask0) (Chain (at 0) 0) ≡ says 0 (Runs 0 (at 3)) (ChainTask 0) []
   pub h-activate : result tableP (run tableP fresh twoOfTask0) (Activate (at 0) 0) ≡ 4
   pub i-nothing-runs : result tableP fresh (Terminate (at 0)) ≡ 2
@@ -123,5 +124,5 @@ pub record Cases : Type 0 where
       numberAt (0xFF ∷ 0xFF ∷ 0xFF ∷ 0xFF ∷ 0xFF ∷ 0xFF ∷ 0xFF ∷ 0xFF ∷ 0x3F ∷ []) 0 ≡ Value 4611686018427387903 9
   pub k-tenth-group :
       numberAt (0xFF ∷ 0xFF ∷ 0xFF ∷ 0xFF ∷ 0xFF ∷ 0xFF ∷ 0xFF ∷ 0xFF ∷ 0xBF ∷ 0x01 ∷ []) 0 ≡ Refused 23
-  pub l-fits : check (table (line 3 2 16 ∷ line 5 1 16 ∷ [])) ≡ verdict 0 []
-  pub l-too-many : check (table (line 3 2 16 ∷ line 5 1 17 ∷ [])) ≡ verdict 4 []
+  pub l-fits : check (table (line 3 2 16 ∷ line 5 1 16 ∷ [])) ≡ verdict 0 NoneNamed
+  pub l-too-many : check (table (line 3 2 16 ∷ line 5 1 17 ∷ [])) ≡ verdict 4 NoneNamed

@@ -17,9 +17,11 @@ use Rattle.rules.specs.declared.KernelCall.the-variants.{NoCall, Activat
 use Rattle.rules.specs.declared.Choice.the-variants.{Idle, Runs}
 use Rattle.rules.specs.declared.Late.{Late}
 use Rattle.rules.specs.declared.Answer.{Answer}
+use Rattle.rules.specs.declared.Named.the-variants.{NoneNamed, TheLine, BothLines}
+use Rattle.rules.specs.declared.Verdict.{Verdict}
 use Rattle.rules.specs.declared.Tally.{Tally}
 use Rattle.rules.specs.Words.{Within, countBy, count, only, lastOr, All, Pairs}
-use Rattle.rules.specs.Table.{Table, size, lineOf, deadlineOf, priorityOf, limitOf, limits, plus, DeadlineInRange, LimitInRange, InRange, Passes, Keeps, Verdict, verdict, check}
+use Rattle.rules.specs.Table.{Table, size, lineOf, deadlineOf, priorityOf, limitOf, limits, plus, DeadlineInRange, LimitInRange, InRange, Passes, Keeps, verdict, check}
 use Rattle.rules.specs.Jobs.{Job, Pending, bare, Before}
 use Rattle.rules.specs.Kernel.{dispatched, dequeued, kernel}
 use Rattle.rules.specs.Calls.{View}
@@ -137,12 +139,12 @@ pub record FirstClash (T : Table) (i j : ℕ) : Type 0 where
 
 -- each answer of the check, with its condition
 pub data Found (T : Table) : Verdict → Type 0 where
-  row-1 : (Within 1 32 (size T) → ⊥) → Found T (verdict 1 [])
-  row-2 : (i : ℕ) → UpTo T i → (DeadlineInRange (lineOf T i) → ⊥) → Found T (verdict 2 (i ∷ []))
-  row-3 : (i : ℕ) → UpTo T i → DeadlineInRange (lineOf T i) → (LimitInRange (lineOf T i) → ⊥) → Found T (verdict 3 (i ∷ []))
-  row-4 : Within 1 32 (size T) → ((n : ℕ) → n < size T → InRange (lineOf T n)) → 32 < limits (T .lines) → Found T (verdict 4 [])
-  row-5 : (i j : ℕ) → Passes T → FirstClash T i j → Found T (verdict 5 (i ∷ j ∷ []))
-  row-0 : Keeps T → Found T (verdict 0 [])
+  row-1 : (Within 1 32 (size T) → ⊥) → Found T (verdict 1 NoneNamed)
+  row-2 : (i : ℕ) → UpTo T i → (DeadlineInRange (lineOf T i) → ⊥) → Found T (verdict 2 (TheLine i))
+  row-3 : (i : ℕ) → UpTo T i → DeadlineInRange (lineOf T i) → (LimitInRange (lineOf T i) → ⊥) → Found T (verdict 3 (TheLine i))
+  row-4 : Within 1 32 (size T) → ((n : ℕ) → n < size T → InRange (lineOf T n)) → 32 < limits (T .lines) → Found T (verdict 4 NoneNamed)
+  row-5 : (i j : ℕ) → Passes T → FirstClash T i j → Found T (verdict 5 (BothLines i j))
+  row-0 : Keeps T → Found T (verdict 0 NoneNamed)
 
 -- it is given exactly then
 abbrev pub CheckExact : Type 0

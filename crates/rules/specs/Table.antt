@@ -7,6 +7,9 @@ use lib.Dec.{ltb, leb}
 use Rattle.rules.specs.declared.Tick.{Tick}
 use Rattle.rules.specs.declared.Span.{Span}
 use Rattle.rules.specs.declared.Line.{Line}
+use Rattle.rules.specs.declared.Named.{Named}
+use Rattle.rules.specs.declared.Named.the-variants.{NoneNamed, TheLine, BothLines}
+use Rattle.rules.specs.declared.Verdict.{Verdict}
 use Rattle.rules.specs.Words.{Within, within}
 
 -- the task table: its lines. A line's place from 0 is its task number
@@ -76,15 +79,11 @@ pub record Keeps (T : Table) : Type 0 where
 -- ---- the check
 
 -- its answer: the number, and the lines named
-pub record Verdict : Type 0 where
-  pub number : ℕ
-  pub lines : List ℕ
-
-abbrev pub verdict : ℕ → List ℕ → Verdict
+abbrev pub verdict : ℕ → Named → Verdict
 verdict n ls = record { number = n; lines = ls }
 
 abbrev pub fine : Verdict
-fine = verdict 0 []
+fine = verdict 0 NoneNamed
 
 infixr 10 _then_
 -- the first answer, or the second where the first is 0
@@ -92,7 +91,7 @@ unfoldable pub _then_ : Verdict → Verdict → Verdict
 _then_ v w = elim (v .number) [ zero ↦ w | suc n ↦ v ]
 
 -- the number n on these lines, if the condition holds
-unfoldable pub refuse : ℕ → List ℕ → Bool → Verdict
+unfoldable pub refuse : ℕ → Named → Bool → Verdict
 refuse n ls true = verdict n ls
 refuse n ls false = fine
 
@@ -100,8 +99,8 @@ refuse n ls false = fine
 abbrev pub rangesFrom : ℕ → List Line → Verdict
 rangesFrom i [] = fine
 rangesFrom i (x ∷ xs) =
-    refuse 2 (i ∷ []) (not (within 1 1000000000 (x .deadline .0)))
-    then refuse 3 (i ∷ []) (not (within 1 32 (x .limit)))
+    refuse 2 (TheLine i) (not (within 1 1000000000 (x .deadline .0)))
+    then refuse 3 (TheLine i) (not (within 1 32 (x .limit)))
     then rangesFrom (suc i) xs
 
 -- the shorter relative deadline lacks the strictly higher priority
@@ -111,7 +110,7 @@ breaks x y = ltb (x .deadline .0) (y .deadline .0) && leb (x .priority) (y .prio
 -- 5: line i with each line behind it, then the next line i
 abbrev pub pairsWith : ℕ → Line → ℕ → List Line → Verdict
 pairsWith i x j [] = fine
-pairsWith i x j (y ∷ ys) = refuse 5 (i ∷ j ∷ []) (breaks x y || breaks y x) then pairsWith i x (suc j) ys
+pairsWith i x j (y ∷ ys) = refuse 5 (BothLines i j) (breaks x y || breaks y x) then pairsWith i x (suc j) ys
 
 abbrev pub pairsFrom : ℕ → List Line → Verdict
 pairsFrom i [] = fine
@@ -119,7 +118,7 @@ pairsFrom i (x ∷ xs) = pairsWith i x (suc i) xs then pairsFrom (suc i) xs
 
 abbrev pub check : Table → Verdict
 check T =
-    refuse 1 [] (not (within 1 32 (size T)))
+    refuse 1 NoneNamed (not (within 1 32 (size T)))
     then rangesFrom 0 (T .lines)
-    then refuse 4 [] (ltb 32 (limits (T .lines)))
+    then refuse 4 NoneNamed (ltb 32 (limits (T .lines)))
     then pairsFrom 0 (T .lines)

@@ -14,6 +14,19 @@ pub struct Line {
     pub limit: u8,
 }
 
+// The lines that a refused table's answer names: none, the line, or both.
+pub enum Named {
+    NoneNamed,
+    TheLine(u8),
+    BothLines(u8, u8),
+}
+
+// What the check answers: its number, and the lines named.
+pub struct Verdict {
+    pub number: u8,
+    pub lines: Named,
+}
+
 // Whether the layer holds a pending job back, or the kernel has it.
 pub enum Phase {
     Delayed,
