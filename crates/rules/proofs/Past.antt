@@ -31,3 +31,8 @@ falls-late s t due = and-comm (ltb (due .0) (t .0)) (not (ltb (due .0) (s .0))) 
     go : (p : Bool) → ltb (due .0) (s .0) ≡ p → not p ≡ leb (s .0) (due .0)
     go true e = sym (lt-leb (s .0) (due .0) (ltb-true (due .0) (s .0) e))
     go false e = sym (le-leb (s .0) (due .0) (ltb-false (due .0) (s .0) e))
+
+-- what is due no earlier is not past before it
+pub past-later : (t due later : Tick) → due .0 ≤ later .0 → isPast t due ≡ false → isPast t later ≡ false
+unfolding isPast
+past-later t due later h e = let k = ltb-false (due .0) (t .0) e in le-ltb (later .0) (t .0) (omega arith)

@@ -36,28 +36,28 @@ pub reached-next : (T : Table) (h : Head) → Reached T h → (e : Call) → Rea
 reached-next T h r e = record { accepted = r .accepted; calls = r .calls ++ (e ∷ []); is = ap (λ z. headNext T z e) (r .is) ∙ sym (run-last T freshHead (r .calls) e) }
 
 module _ (T : Table) (h : Head) (r : Reached T h) where
-  keeps : Keeps T
-  keeps = keeps-found T (ap (λ (v : Verdict). v .number) (r .accepted))
+  pub reached-keeps : Keeps T
+  reached-keeps = keeps-found T (ap (λ (v : Verdict). v .number) (r .accepted))
 
   reached-board : h .board ≡ run T fresh (r .calls)
   reached-board = ap (λ (z : Head). z .board) (r .is) ∙ head-board T freshHead (r .calls)
 
   pub reached-good : Good T (Higher T) (h .board)
-  reached-good = subst⁻¹ (Good T (Higher T)) reached-board (fresh-good T (Higher T) (ranks T keeps) (r .calls))
+  reached-good = subst⁻¹ (Good T (Higher T)) reached-board (fresh-good T (Higher T) (ranks T reached-keeps) (r .calls))
 
   pub reached-marked : All (Marked (h .board .last)) (h .board .jobs)
-  reached-marked = subst⁻¹ (λ (z : Board). All (Marked (z .last)) (z .jobs)) reached-board (fresh-marked T (keeps .passes) (r .calls))
+  reached-marked = subst⁻¹ (λ (z : Board). All (Marked (z .last)) (z .jobs)) reached-board (fresh-marked T (reached-keeps .passes) (r .calls))
 
   -- the list has room
   pub reached-room : length (h .board .jobs) ≤ 32
-  reached-room = subst⁻¹ (λ (z : Board). length (z .jobs) ≤ 32) reached-board (room-for-all T (keeps .passes) (r .calls))
+  reached-room = subst⁻¹ (λ (z : Board). length (z .jobs) ≤ 32) reached-board (room-for-all T (reached-keeps .passes) (r .calls))
 
   -- the first job runs, and leaves when it ends
   pub reached-task : running T (h .board) ≡ firstTask (h .board .jobs)
-  reached-task = top-first T keeps (h .board .last) (h .board .jobs) (h .board .ready) reached-good (running T (h .board)) refl
+  reached-task = top-first T reached-keeps (h .board .last) (h .board .jobs) (h .board .ready) reached-good (running T (h .board)) refl
 
   pub reached-runs : runningJob T (h .board) ≡ first-of (h .board .jobs)
-  reached-runs = runs-first T keeps (h .board .last) (h .board .jobs) (h .board .ready) reached-good (running T (h .board)) refl
+  reached-runs = runs-first T reached-keeps (h .board .last) (h .board .jobs) (h .board .ready) reached-good (running T (h .board)) refl
 
   pub reached-leaves : without (running T (h .board)) (h .board .jobs) ≡ rest-of (h .board .jobs)
-  reached-leaves = leaves T keeps (h .board .last) (h .board .jobs) (h .board .ready) reached-good (running T (h .board)) refl
+  reached-leaves = leaves T reached-keeps (h .board .last) (h .board .jobs) (h .board .ready) reached-good (running T (h .board)) refl

@@ -35,8 +35,8 @@ pub enum Phase {
 
 // A pending job as a list keeps it. Its activation tick is its deadline less its task's D. (`Job` of specs/Jobs also says that tick, and more.)
 pub struct Job {
-    pub task: u8,
     pub due: Tick,
+    pub task: u8,
     pub phase: Phase,
 }
 

@@ -1,0 +1,4 @@
+pub mod Laid
+pub mod Shifts
+pub mod Scans
+pub mod Lates

@@ -1,0 +1,15 @@
+use borrow.Author.Needs.{needs}
+use mathlib.Core.Path.{refl}
+use Rattle.jobs.specs.Listed.{pack}
+use Rattle.jobs.proofs.empty.Statement.{statement}
+use Rattle.jobs.proofs.empty.Tie as tie
+use Rattle.jobs.proofs.empty.Reads as reads
+use Rattle.jobs.proofs.empty.Lts as lts
+
+-- src/lib.rt:31:1
+returns : tie.Need-returns
+unfolding pack
+returns c = refl
+
+pub empty-spec : {M : Type 1} → statement M
+empty-spec = tie.close (tie.spec returns)

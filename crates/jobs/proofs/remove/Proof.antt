@@ -1,0 +1,24 @@
+use Rattle.jobs.proofs.Shifts.{remove-law}
+use borrow.Author.Needs.{needs}
+use Rattle.jobs.proofs.remove.Statement.{statement}
+use Rattle.jobs.proofs.remove.Tie as tie
+use Rattle.jobs.proofs.remove.Reads as reads
+use Rattle.jobs.proofs.remove.Lts as lts
+use Rattle.jobs.proofs.closed.Reads as closed-reads
+
+-- src/lib.rt:133:15
+closed-requires : tie.Need-closed-requires
+closed-requires c κs = search needs
+
+-- src/lib.rt:134:16
+sub-t6 : tie.Need-sub-t6
+sub-t6 c = search needs
+
+-- src/lib.rt:126:1
+returns : tie.Need-returns
+returns c =
+    let b = c .before .before in
+    rw (c .closed .ensures) (remove-law (b .args .list) (b .args .at) (b .pre .0) (b .pre .1))
+
+pub remove-spec : {M : Type 1} → statement M
+remove-spec = tie.close (tie.spec closed-requires sub-t6 returns)

@@ -1,0 +1,4 @@
+pub mod Laws
+pub mod Highest
+pub mod Queue
+pub mod Claims

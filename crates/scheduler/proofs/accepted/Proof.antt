@@ -1,0 +1,20 @@
+use mathlib.Core.Path.{refl}
+use Rattle.scheduler.specs.Steps.{acceptedOf}
+use borrow.Author.Needs.{needs}
+use Rattle.scheduler.proofs.accepted.Statement.{statement}
+use Rattle.scheduler.proofs.accepted.Tie as tie
+use Rattle.scheduler.proofs.accepted.Reads as reads
+use Rattle.scheduler.proofs.accepted.Lts as lts
+use Rattle.scheduler.proofs.running.Reads as running-reads
+
+-- src/lib.rt:357:18
+running-requires : tie.Need-running-requires
+running-requires c κs = search needs
+
+-- src/lib.rt:349:1
+returns : tie.Need-returns
+unfolding acceptedOf
+returns c = rw (c .running .ensures)
+
+pub accepted-spec : {M : Type 1} → statement M
+accepted-spec = tie.close (tie.spec running-requires returns)

@@ -1,0 +1,109 @@
+use mathlib.Core.Path.{_≡_, sym, ap, _∙_, subst⁻¹}
+use native.Mathlib.Omega.{arith}
+use Rattle.rules.specs.declared.Call.the-variants.{Activate}
+use Rattle.jobs.specs.Listed.{view, Shaped}
+use Rattle.jobs.proofs.Laid.{view-length}
+use Rattle.scheduler.specs.declared.Activation.{Activation}
+use Rattle.scheduler.specs.declared.Change.{Change}
+use Rattle.scheduler.specs.Steps.{activateRefusal, enteredIn}
+use Rattle.scheduler.proofs.Rows.{refusalIn}
+use Rattle.scheduler.proofs.Whole.{changeIn, movedOf}
+use Rattle.scheduler.proofs.Facts.{handed-shaped, handed-sorted, handed-refused, handed-accepted, handed-room, hand-on, entered-shaped, moved-by}
+use borrow.Author.Needs.{needs}
+use Rattle.scheduler.proofs.activate.Statement.{statement}
+use Rattle.scheduler.proofs.activate.Tie as tie
+use Rattle.scheduler.proofs.activate.Reads as reads
+use Rattle.scheduler.proofs.activate.Lts as lts
+use Rattle.jobs.proofs.newly_late.Reads as newly-late-reads
+use Rattle.monitor.proofs.with_late.Reads as with-late-reads
+use Rattle.scheduler.proofs.accepted.Reads as accepted-reads
+use Rattle.scheduler.proofs.activate_refusal.Reads as activate-refusal-reads
+use Rattle.scheduler.proofs.asked.Reads as asked-reads
+use Rattle.scheduler.proofs.entered.Reads as entered-reads
+use Rattle.scheduler.proofs.refused.Reads as refused-reads
+
+-- the number that is found
+number : (c : tie.After-activate-refusal) → c .activate-refusal .result ≡ refusalIn (c .before .before .args .s) (Activate (c .before .before .args .at) (c .before .before .args .task))
+number c =
+    let a = c .before .before .args in
+    c .activate-refusal .ensures ∙ ap (activateRefusal (a .s .last) (a .s .table .count) (a .s .list)) (c .before .asked .ensures)
+
+-- the call is accepted
+none : (c : tie.Else1) → refusalIn (c .before .before .before .args .s) (Activate (c .before .before .before .args .at) (c .before .before .before .args .task)) ≡ 0
+none c = sym (number (c .before)) ∙ c .if1 .left
+
+-- the list after it, and the kernel call
+change : (c : tie.After-entered) → c .entered .result ≡ changeIn (c .before .before .before .before .before .before .args .s) (Activate (c .before .before .before .before .before .before .args .at) (c .before .before .before .before .before .before .args .task))
+change c =
+    let a = c .before .before .before .before .before .before .args in
+    c .entered .ensures ∙ ap (λ (x : Activation). enteredIn (a .task) (x .due) (view (a .s .list))) (c .before .before .before .before .before .asked .ensures)
+
+-- src/lib.rt:110:9
+asked-requires : tie.Need-asked-requires
+asked-requires c κs = search needs
+
+-- src/lib.rt:111:9
+activate-refusal-requires : tie.Need-activate-refusal-requires
+activate-refusal-requires c κs = handed-shaped (c .before .args .s) (c .before .pre)
+
+-- src/lib.rt:113:9
+refused-requires : tie.Need-refused-requires
+refused-requires c κs = handed-shaped (c .before .before .before .args .s) (c .before .before .before .pre)
+
+-- src/lib.rt:113:9
+returns : tie.Need-returns
+returns c =
+    let b = c .before .before .before .before in
+    let a = b .args in
+    hand-on (a .s) (b .pre) (Activate (a .at) (a .task)) _
+    (c .refused .ensures ∙ handed-refused (a .s) (b .pre) (Activate (a .at) (a .task)) _ (number (c .before .before)) (c .before .if1 .taken))
+
+-- src/lib.rt:115:9
+newly-late-requires : tie.Need-newly-late-requires
+newly-late-requires c κs =
+    let b = c .before .before .before in
+    (handed-shaped (b .args .s) (b .pre), handed-sorted (b .args .s) (b .pre))
+
+-- src/lib.rt:116:9
+with-late-requires : tie.Need-with-late-requires
+with-late-requires c κs = search needs
+
+-- src/lib.rt:117:9
+entered-requires : tie.Need-entered-requires
+entered-requires c κs =
+    let b = c .before .before .before .before .before in
+    (handed-shaped (b .args .s) (b .pre), handed-room (b .args .s) (b .pre) (b .args .at) (b .args .task) (none (c .before .before)))
+
+-- src/lib.rt:118:5
+accepted-requires : tie.Need-accepted-requires
+accepted-requires c κs =
+    let b = c .before .before .before .before .before .before in
+    let a = b .args in
+    let h = handed-shaped (a .s) (b .pre) in
+    let r = handed-room (a .s) (b .pre) (a .at) (a .task) (none (c .before .before .before)) in
+    subst⁻¹ (λ (z : Change). Shaped (z .list)) (change c) (entered-shaped (a .task) _ (view (a .s .list)) (omega (arith, view-length (a .s .list) h, r)))
+
+-- src/lib.rt:106:1
+returns-2 : tie.Need-returns-2
+returns-2 c =
+    let b = c .before .before .before .before .before .before .before in
+    let a = b .args in
+    hand-on (a .s) (b .pre) (Activate (a .at) (a .task)) _
+    (c .accepted .ensures
+    ∙ moved-by (a .s) (a .at) _ _ _ (c .before .before .before .newly-late .ensures) (c .before .before .with-late .ensures)
+    ∙ ap (movedOf (a .s) (a .at)) (change (c .before))
+    ∙ handed-accepted (a .s) (b .pre) (Activate (a .at) (a .task)) (none (c .before .before .before .before)))
+
+pub activate-spec : {M : Type 1} → statement M
+activate-spec =
+    tie.close
+    (tie.spec
+    asked-requires
+    activate-refusal-requires
+    refused-requires
+    returns
+    newly-late-requires
+    with-late-requires
+    entered-requires
+    accepted-requires
+    returns-2)

@@ -1,0 +1,25 @@
+use mathlib.Core.Path.{refl}
+use Rattle.scheduler.specs.Steps.{askedOf}
+use borrow.Author.Needs.{needs}
+use Rattle.scheduler.proofs.asked.Statement.{statement}
+use Rattle.scheduler.proofs.asked.Tie as tie
+use Rattle.scheduler.proofs.asked.Reads as reads
+use Rattle.scheduler.proofs.asked.Lts as lts
+use Rattle.table.proofs.line_of.Reads as line-of-reads
+use Rattle.ticks.proofs.plus.Reads as plus-reads
+
+-- src/lib.rt:221:9
+line-of-requires : tie.Need-line-of-requires
+line-of-requires c κs = search needs
+
+-- src/lib.rt:227:14
+plus-requires : tie.Need-plus-requires
+plus-requires c κs = search needs
+
+-- src/lib.rt:218:1
+returns : tie.Need-returns
+unfolding askedOf
+returns c = rw (c .plus .ensures, c .before .before .line-of .ensures)
+
+pub asked-spec : {M : Type 1} → statement M
+asked-spec = tie.close (tie.spec line-of-requires plus-requires returns)

@@ -1,0 +1,23 @@
+use mathlib.Core.Path.{refl}
+use borrow.Author.Needs.{needs}
+use Rattle.scheduler.proofs.fresh.Statement.{statement}
+use Rattle.scheduler.proofs.fresh.Tie as tie
+use Rattle.scheduler.proofs.fresh.Reads as reads
+use Rattle.scheduler.proofs.fresh.Lts as lts
+use Rattle.jobs.proofs.empty.Reads as empty-reads
+use Rattle.monitor.proofs.none.Reads as none-reads
+
+-- src/lib.rt:82:15
+empty-requires : tie.Need-empty-requires
+empty-requires c κs = search needs
+
+-- src/lib.rt:83:18
+none-requires : tie.Need-none-requires
+none-requires c κs = search needs
+
+-- src/lib.rt:76:1
+returns : tie.Need-returns
+returns c = rw (c .none .ensures, c .before .empty .ensures)
+
+pub fresh-spec : {M : Type 1} → statement M
+fresh-spec = tie.close (tie.spec empty-requires none-requires returns)

@@ -1,0 +1,25 @@
+use mathlib.Core.Path.{refl}
+use Rattle.scheduler.specs.Steps.{refusedOf}
+use borrow.Author.Needs.{needs}
+use Rattle.scheduler.proofs.refused.Statement.{statement}
+use Rattle.scheduler.proofs.refused.Tie as tie
+use Rattle.scheduler.proofs.refused.Reads as reads
+use Rattle.scheduler.proofs.refused.Lts as lts
+use Rattle.jobs.proofs.none_late.Reads as none-late-reads
+use Rattle.scheduler.proofs.running.Reads as running-reads
+
+-- src/lib.rt:341:18
+running-requires : tie.Need-running-requires
+running-requires c κs = search needs
+
+-- src/lib.rt:343:15
+none-late-requires : tie.Need-none-late-requires
+none-late-requires c κs = search needs
+
+-- src/lib.rt:335:1
+returns : tie.Need-returns
+unfolding refusedOf
+returns c = rw (c .none-late .ensures, c .before .running .ensures)
+
+pub refused-spec : {M : Type 1} → statement M
+refused-spec = tie.close (tie.spec running-requires none-late-requires returns)

@@ -1,0 +1,45 @@
+use mathlib.Core.Path.{sym, ap, _∙_}
+use Rattle.rules.specs.declared.Job.{Job}
+use Rattle.rules.specs.declared.KernelCall.the-variants.{ChainTask}
+use Rattle.scheduler.proofs.Facts.{settle-none, settle-first}
+use borrow.Author.Needs.{needs}
+use Rattle.scheduler.proofs.settle_call.Statement.{statement}
+use Rattle.scheduler.proofs.settle_call.Tie as tie
+use Rattle.scheduler.proofs.settle_call.Reads as reads
+use Rattle.scheduler.proofs.settle_call.Lts as lts
+use Rattle.jobs.proofs.first.Reads as first-reads
+
+-- src/lib.rt:277:9
+returns : tie.Need-returns
+returns c = sym (settle-none (c .before .before .args .list) (c .if1 .taken))
+
+-- src/lib.rt:279:9
+first-requires : tie.Need-first-requires
+first-requires c κs = search needs
+
+-- src/lib.rt:282:27
+enum-told : tie.Need-enum-told
+enum-told c = search needs
+
+-- src/lib.rt:283:28
+enum-told-2 : tie.Need-enum-told-2
+enum-told-2 c = search needs
+
+-- src/lib.rt:272:1
+returns-2 : tie.Need-returns-2
+returns-2 c =
+    let f = c .before .before in
+    let b = f .before .before .before in
+    ap (λ (x : Job). ChainTask (x .task)) (f .first .ensures)
+    ∙ sym (settle-first (b .args .list) (b .pre) (f .before .if1 .left) _ (ap (λ (x : Job). x .phase) (sym (f .first .ensures)) ∙ c .enum-told .given .1))
+
+-- src/lib.rt:272:1
+returns-3 : tie.Need-returns-3
+returns-3 c =
+    let f = c .before .before in
+    let b = f .before .before .before in
+    sym (settle-first (b .args .list) (b .pre) (f .before .if1 .left) _ (ap (λ (x : Job). x .phase) (sym (f .first .ensures)) ∙ c .enum-told2 .given .1))
+
+pub settle-call-spec : {M : Type 1} → statement M
+settle-call-spec =
+    tie.close (tie.spec returns first-requires enum-told enum-told-2 returns-2 returns-3)

@@ -1,0 +1,25 @@
+use mathlib.Core.Path.{refl}
+use Rattle.scheduler.specs.Steps.{settledIn}
+use borrow.Author.Needs.{needs}
+use Rattle.scheduler.proofs.settled.Statement.{statement}
+use Rattle.scheduler.proofs.settled.Tie as tie
+use Rattle.scheduler.proofs.settled.Reads as reads
+use Rattle.scheduler.proofs.settled.Lts as lts
+use Rattle.jobs.proofs.release_first.Reads as release-first-reads
+use Rattle.scheduler.proofs.settle_call.Reads as settle-call-reads
+
+-- src/lib.rt:293:15
+release-first-requires : tie.Need-release-first-requires
+release-first-requires c κs = search needs
+
+-- src/lib.rt:294:15
+settle-call-requires : tie.Need-settle-call-requires
+settle-call-requires c κs = search needs
+
+-- src/lib.rt:288:1
+returns : tie.Need-returns
+unfolding settledIn
+returns c = rw (c .settle-call .ensures, c .before .release-first .ensures)
+
+pub settled-spec : {M : Type 1} → statement M
+settled-spec = tie.close (tie.spec release-first-requires settle-call-requires returns)

@@ -1,0 +1,37 @@
+use mathlib.Core.Path.{refl}
+use Rattle.scheduler.specs.Steps.{reported, talliedIn}
+use borrow.Author.Needs.{needs}
+use Rattle.scheduler.proofs.tallied.Statement.{statement}
+use Rattle.scheduler.proofs.tallied.Tie as tie
+use Rattle.scheduler.proofs.tallied.Reads as reads
+use Rattle.scheduler.proofs.tallied.Lts as lts
+use Rattle.jobs.proofs.first.Reads as first-reads
+use Rattle.monitor.proofs.with_ended.Reads as with-ended-reads
+use Rattle.monitor.proofs.with_late.Reads as with-late-reads
+use Rattle.scheduler.proofs.response_of.Reads as response-of-reads
+
+-- src/lib.rt:328:9
+first-requires : tie.Need-first-requires
+first-requires c κs = search needs
+
+-- src/lib.rt:329:9
+response-of-requires : tie.Need-response-of-requires
+response-of-requires c κs = search needs
+
+-- src/lib.rt:330:9
+with-late-requires : tie.Need-with-late-requires
+with-late-requires c κs = search needs
+
+-- src/lib.rt:331:5
+with-ended-requires : tie.Need-with-ended-requires
+with-ended-requires c κs = search needs
+
+-- src/lib.rt:324:1
+returns : tie.Need-returns
+unfolding reported talliedIn
+returns c = rw (c .with-ended .ensures, c .before .with-late .ensures, c .before .before .response-of .ensures, c .before .before .before .first .ensures)
+
+pub tallied-spec : {M : Type 1} → statement M
+tallied-spec =
+    tie.close
+    (tie.spec first-requires response-of-requires with-late-requires with-ended-requires returns)

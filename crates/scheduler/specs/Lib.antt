@@ -1,0 +1,3 @@
+pub mod State
+pub mod Steps
+pub mod Claims

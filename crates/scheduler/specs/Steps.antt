@@ -1,0 +1,123 @@
+-- The parts of a call, over plain lists of jobs as they are kept. No public promise names them. Assumes nothing.
+use Prim.Native.Nat.{ℕ, _≤_}
+use mathlib.Core.Bool.{Bool, cond}
+use mathlib.Core.List.{List, [], _∷_}
+use lib.Dec.{leb, eqb}
+use lib.ListN.{drop}
+use Rattle.rules.specs.declared.Tick.{Tick}
+use Rattle.rules.specs.declared.Job.{Job}
+use Rattle.rules.specs.declared.Phase.{Phase}
+use Rattle.rules.specs.declared.Phase.the-variants.{Delayed, Released}
+use Rattle.rules.specs.declared.KernelCall.{KernelCall}
+use Rattle.rules.specs.declared.KernelCall.the-variants.{NoCall, ActivateTask, ChainTask, TerminateTask}
+use Rattle.rules.specs.declared.Choice.{Choice}
+use Rattle.rules.specs.declared.Choice.the-variants.{Idle, Runs}
+use Rattle.rules.specs.declared.Late.{Late}
+use Rattle.rules.specs.Words.{_if_else_}
+use Rattle.rules.specs.Calls.{badTick}
+use Rattle.rules.specs.Counts.{noTallies, endedMore, onTask, withLate}
+use Rattle.ticks.specs.Ticks.{sum, isBeyond, responseBy}
+use Rattle.table.specs.declared.TaskTable.{TaskTable}
+use Rattle.table.specs.Lines.{lineAt}
+use Rattle.jobs.specs.declared.JobList.{JobList}
+use Rattle.jobs.specs.Listed.{view, pack, isFirstIn, insertDue, firstIn, releaseFirst, pendingOf, lateIn}
+use Rattle.monitor.specs.declared.Monitor.{Monitor}
+use Rattle.monitor.specs.Tallies.{counts, tasksOf}
+use Rattle.scheduler.specs.declared.State.{State}
+use Rattle.scheduler.specs.declared.Stepped.{Stepped}
+use Rattle.scheduler.specs.declared.Activation.{Activation}
+use Rattle.scheduler.specs.declared.Change.{Change}
+
+abbrev pub freshOf : TaskTable → State
+freshOf t = record { table = t; last = record { 0 = 0 }; list = pack []; monitor = counts noTallies }
+
+-- ---- the refusals
+
+unfoldable pub askedOf : TaskTable → Tick → ℕ → Activation
+askedOf t at n = record { at = at; task = n; limit = (lineAt (t .lines) n) .limit; due = sum at ((lineAt (t .lines) n) .deadline) }
+
+unfoldable pub activateRefusal : Tick → ℕ → JobList → Activation → ℕ
+activateRefusal last lines l new =
+    8 if badTick last (new .at)
+    else 3 if leb lines (new .task)
+    else 4 if leb (new .limit) (pendingOf (new .task) (drop 0 (view l)))
+    else 10 if leb 32 (l .count)
+    else 9 if isBeyond (new .due)
+    else 0
+
+unfoldable pub terminateRefusal : Tick → JobList → Tick → ℕ
+terminateRefusal last l at = 8 if badTick last at else 2 if eqb (l .count) 0 else 0
+
+unfoldable pub chainRefusal : Tick → ℕ → JobList → Activation → ℕ
+chainRefusal last lines l new =
+    8 if badTick last (new .at)
+    else 2 if eqb (l .count) 0
+    else 3 if leb lines (new .task)
+    else 4 if leb (new .limit) (pendingOf (new .task) (drop 1 (view l)))
+    else 9 if isBeyond (new .due)
+    else 0
+
+-- ---- what moves
+
+unfoldable pub choiceIn : List Job → Choice
+choiceIn [] = Idle
+choiceIn (x ∷ xs) = Runs (x .task) (x .due)
+
+abbrev pub jobAs : ℕ → Tick → Phase → Job
+jobAs n due p = record { task = n; due = due; phase = p }
+
+abbrev pub enteredAs : ℕ → Tick → List Job → Bool → Change
+enteredAs n due xs f =
+    cond f
+    (record { list = pack (insertDue (jobAs n due Released) xs); call = ActivateTask n })
+    (record { list = pack (insertDue (jobAs n due Delayed) xs); call = NoCall })
+
+unfoldable pub enteredIn : ℕ → Tick → List Job → Change
+enteredIn n due xs = enteredAs n due xs (isFirstIn (jobAs n due Delayed) xs)
+
+abbrev pub settleAs : Phase → ℕ → KernelCall
+settleAs Delayed n = ChainTask n
+settleAs Released n = TerminateTask
+
+unfoldable pub settleCall : List Job → KernelCall
+settleCall [] = TerminateTask
+settleCall (x ∷ xs) = settleAs (x .phase) (x .task)
+
+unfoldable pub settledIn : List Job → Change
+settledIn xs = record { list = pack (releaseFirst xs); call = settleCall xs }
+
+unfoldable pub chainedIn : ℕ → Tick → List Job → Change
+chainedIn n due xs = settledIn (insertDue (jobAs n due Delayed) xs)
+
+-- ---- what is counted
+
+-- no relative deadline is above the longest
+pub record Short (t : TaskTable) : Type 0 where
+  pub deadlines : (n : ℕ) → (lineAt (t .lines) n) .deadline .0 ≤ 1000000000
+
+unfoldable pub responseIn : TaskTable → Job → Tick → ℕ
+responseIn t x at = responseBy at (x .due) ((lineAt (t .lines) (x .task)) .deadline)
+
+-- late jobs are counted
+unfoldable pub reported : Late → Monitor → Monitor
+reported l c = counts (withLate (tasksOf l) (c .tallies))
+
+-- and then the first job, which ended
+unfoldable pub talliedIn : TaskTable → List Job → Tick → Monitor → Monitor
+talliedIn t xs at c = counts (onTask (firstIn xs .task) (endedMore (responseIn t (firstIn xs) at)) (c .tallies))
+
+-- ---- the whole
+
+unfoldable pub refusedOf : State → ℕ → Stepped
+refusedOf s k =
+    record {
+      state = s;
+      answer = record { result = k; running = choiceIn (view (s .list)); call = NoCall; late = lateIn [] };
+    }
+
+unfoldable pub acceptedOf : TaskTable → Tick → Late → Monitor → Change → Stepped
+acceptedOf t at l c m =
+    record {
+      state = record { table = t; last = at; list = m .list; monitor = c };
+      answer = record { result = 0; running = choiceIn (view (m .list)); call = m .call; late = l };
+    }

@@ -1,0 +1,373 @@
+// The scheduler by value: the check that hands out a state, and the calls. Each promises what the rule-book gives.
+ghost use mathlib.Core.Path.{_≡_};
+ghost use Prim.Native.Nat.{_≤_, _<_};
+ghost use Rattle.rules.specs.declared.Call.the-variants.{Wait, Activate, Terminate, Chain};
+ghost use Rattle.jobs.specs.Listed.{places, view, Shaped, Sorted};
+ghost use Rattle.rules.specs.Table.{greatest};
+ghost use Rattle.scheduler.specs.Steps.{freshOf, choiceIn, askedOf, activateRefusal, terminateRefusal, chainRefusal, enteredIn, settleCall, settledIn, chainedIn, Short, responseIn, reported, talliedIn, refusedOf, acceptedOf};
+ghost use Rattle.scheduler.specs.State.{Handed, HandedOut, stepOf, checkedOf};
+ghost use Rattle.scheduler.specs.Claims.{Claims};
+use jobs::JobList;
+use jobs::PLACES;
+use monitor::Monitor;
+use rules::Answer;
+use rules::Choice;
+use rules::Job;
+use rules::KernelCall;
+use rules::Late;
+use rules::Phase;
+use rules::Tick;
+use rules::Verdict;
+use table::TaskTable;
+
+// The scheduler state of a recorder head.
+pub struct State {
+    pub table: TaskTable,
+    pub last: Tick,
+    pub list: JobList,
+    pub monitor: Monitor,
+}
+
+// What the check gives: a fresh state (an empty one of no lines after a refusal), and its answer.
+pub struct Checked {
+    pub state: State,
+    pub verdict: Verdict,
+}
+
+// What a call gives: the next state, and its answer.
+pub struct Stepped {
+    pub state: State,
+    pub answer: Answer,
+}
+
+// An activation that is asked for: its tick, its task, the limit of its line, and when it would be due.
+pub struct Activation {
+    pub at: Tick,
+    pub task: u8,
+    pub limit: u8,
+    pub due: Tick,
+}
+
+// The list after a call, and the kernel call made.
+pub struct Change {
+    pub list: JobList,
+    pub call: KernelCall,
+}
+
+// ---- the check
+
+pub fn check(given: TaskTable) -> Checked
+    ensures { λ r. ⌜ (r ≡ checkedOf given) × HandedOut r ⌝ }
+{
+    let verdict = table::check(given);
+    if verdict.number != 0 {
+        return Checked {
+            state: fresh(table::empty()),
+            verdict,
+        };
+    }
+    Checked {
+        state: fresh(table::kept(given)),
+        verdict,
+    }
+}
+
+// No job; tick, counts and greatest responses 0.
+fn fresh(table: TaskTable) -> State
+    ensures { λ r. ⌜ r ≡ freshOf table ⌝ }
+{
+    State {
+        table,
+        last: Tick(0),
+        list: jobs::empty(),
+        monitor: monitor::none(),
+    }
+}
+
+// ---- the calls
+
+pub fn tick(s: State, at: Tick) -> Stepped
+    requires { ⌜ Handed s ⌝ }
+    ensures { λ r. ⌜ (r ≡ stepOf s (Wait at)) × Handed (r .state) ⌝ }
+{
+    if ticks::bad_tick(s.last, at) {
+        return refused(s, 8);
+    }
+    let late = jobs::newly_late(s.list, s.last, at);
+    let monitor = monitor::with_late(s.monitor, late);
+    let list = s.list;
+    let change = Change {
+        list,
+        call: KernelCall::NoCall,
+    };
+    accepted(s.table, at, late, monitor, change)
+}
+
+pub fn activate(s: State, at: Tick, task: u8) -> Stepped
+    requires { ⌜ Handed s ⌝ }
+    ensures { λ r. ⌜ (r ≡ stepOf s (Activate at task)) × Handed (r .state) ⌝ }
+{
+    let new = asked(s.table, at, task);
+    let refusal = activate_refusal(s.last, s.table.count, s.list, new);
+    if refusal != 0 {
+        return refused(s, refusal);
+    }
+    let late = jobs::newly_late(s.list, s.last, at);
+    let monitor = monitor::with_late(s.monitor, late);
+    let change = entered(s.list, task, new.due);
+    accepted(s.table, at, late, monitor, change)
+}
+
+pub fn terminate(s: State, at: Tick) -> Stepped
+    requires { ⌜ Handed s ⌝ }
+    ensures { λ r. ⌜ (r ≡ stepOf s (Terminate at)) × Handed (r .state) ⌝ }
+{
+    let refusal = terminate_refusal(s.last, s.list, at);
+    if refusal != 0 {
+        return refused(s, refusal);
+    }
+    let late = jobs::newly_late(s.list, s.last, at);
+    let monitor = tallied(s.table, s.list, s.monitor, at, late);
+    let others = jobs::remove(s.list, 0);
+    let change = settled(others);
+    accepted(s.table, at, late, monitor, change)
+}
+
+pub fn chain(s: State, at: Tick, task: u8) -> Stepped
+    requires { ⌜ Handed s ⌝ }
+    ensures { λ r. ⌜ (r ≡ stepOf s (Chain at task)) × Handed (r .state) ⌝ }
+{
+    let new = asked(s.table, at, task);
+    let refusal = chain_refusal(s.last, s.table.count, s.list, new);
+    if refusal != 0 {
+        return refused(s, refusal);
+    }
+    let late = jobs::newly_late(s.list, s.last, at);
+    let monitor = tallied(s.table, s.list, s.monitor, at, late);
+    let others = jobs::remove(s.list, 0);
+    let change = chained(others, task, new.due);
+    accepted(s.table, at, late, monitor, change)
+}
+
+// ---- the refusals, in the order of the rows
+
+fn activate_refusal(last: Tick, lines: usize, list: JobList, new: Activation) -> u8
+    requires { ⌜ Shaped list ⌝ }
+    ensures { λ r. ⌜ r ≡ activateRefusal last lines list new ⌝ }
+{
+    let at = new.at;
+    if ticks::bad_tick(last, at) {
+        return 8;
+    }
+    if lines <= new.task as usize {
+        return 3;
+    }
+    if new.limit as usize <= jobs::pending_from(list, 0, new.task) {
+        return 4;
+    }
+    if PLACES <= list.count {
+        return 10;
+    }
+    let due = new.due;
+    if ticks::is_beyond(due) {
+        return 9;
+    }
+    0
+}
+
+fn terminate_refusal(last: Tick, list: JobList, at: Tick) -> u8
+    ensures { λ r. ⌜ r ≡ terminateRefusal last list at ⌝ }
+{
+    if ticks::bad_tick(last, at) {
+        return 8;
+    }
+    if list.count == 0 {
+        return 2;
+    }
+    0
+}
+
+// The job that ends, the first, is not counted.
+fn chain_refusal(last: Tick, lines: usize, list: JobList, new: Activation) -> u8
+    requires { ⌜ Shaped list ⌝ }
+    ensures { λ r. ⌜ r ≡ chainRefusal last lines list new ⌝ }
+{
+    let at = new.at;
+    if ticks::bad_tick(last, at) {
+        return 8;
+    }
+    if list.count == 0 {
+        return 2;
+    }
+    if lines <= new.task as usize {
+        return 3;
+    }
+    if new.limit as usize <= jobs::pending_from(list, 1, new.task) {
+        return 4;
+    }
+    let due = new.due;
+    if ticks::is_beyond(due) {
+        return 9;
+    }
+    0
+}
+
+// ---- the parts of a call
+
+// The job that an activation at this tick would make, and the limit that it has to keep.
+fn asked(table: TaskTable, at: Tick, task: u8) -> Activation
+    ensures { λ r. ⌜ r ≡ askedOf table at task ⌝ }
+{
+    let line = table::line_of(table, task);
+    let deadline = line.deadline;
+    Activation {
+        at,
+        task,
+        limit: line.limit,
+        due: ticks::plus(at, deadline),
+    }
+}
+
+// What runs: the first job. It is the one that the kernel runs (rules, proofs/First).
+fn running(list: JobList) -> Choice
+    requires { ⌜ Shaped list ⌝ }
+    ensures { λ r. ⌜ r ≡ choiceIn (view list) ⌝ }
+{
+    if list.count == 0 {
+        return Choice::Idle;
+    }
+    let job = jobs::first(list);
+    let due = job.due;
+    Choice::Runs(job.task, due)
+}
+
+// Activate: insert. If the new job is first, release it by ActivateTask; otherwise no kernel call.
+fn entered(list: JobList, task: u8, due: Tick) -> Change
+    requires { ⌜ Shaped list × (list .count < places) ⌝ }
+    ensures { λ r. ⌜ r ≡ enteredIn task due (view list) ⌝ }
+{
+    let job = Job {
+        due,
+        task,
+        phase: Phase::Delayed,
+    };
+    if jobs::is_first(list, job) {
+        let first = Job {
+            due,
+            task,
+            phase: Phase::Released,
+        };
+        return Change {
+            list: jobs::insert(list, first),
+            call: KernelCall::ActivateTask(task),
+        };
+    }
+    Change {
+        list: jobs::insert(list, job),
+        call: KernelCall::NoCall,
+    }
+}
+
+// The kernel call once the running job has left: ChainTask if the new first job is delayed; otherwise TerminateTask.
+fn settle_call(list: JobList) -> KernelCall
+    requires { ⌜ Shaped list ⌝ }
+    ensures { λ r. ⌜ r ≡ settleCall (view list) ⌝ }
+{
+    if list.count == 0 {
+        return KernelCall::TerminateTask;
+    }
+    let first = jobs::first(list);
+    let phase = first.phase;
+    match phase {
+        Phase::Delayed => KernelCall::ChainTask(first.task),
+        Phase::Released => KernelCall::TerminateTask,
+    }
+}
+
+// The running job has left: the new first job is released, if it is delayed.
+fn settled(list: JobList) -> Change
+    requires { ⌜ Shaped list ⌝ }
+    ensures { λ r. ⌜ r ≡ settledIn (view list) ⌝ }
+{
+    Change {
+        list: jobs::release_first(list),
+        call: settle_call(list),
+    }
+}
+
+// Chain: the named task's job is inserted, then as for terminate.
+fn chained(others: JobList, task: u8, due: Tick) -> Change
+    requires { ⌜ Shaped others × (others .count < places) ⌝ }
+    ensures { λ r. ⌜ r ≡ chainedIn task due (view others) ⌝ }
+{
+    let job = Job {
+        due,
+        task,
+        phase: Phase::Delayed,
+    };
+    let list = jobs::insert(others, job);
+    settled(list)
+}
+
+// The response of a job that ends at a tick.
+fn response_of(table: TaskTable, job: Job, at: Tick) -> u64
+    requires { ⌜ Short table × (at .0 ≤ greatest .0) ⌝ }
+    ensures { λ r. ⌜ r ≡ responseIn table job at ⌝ }
+{
+    let line = table::line_of(table, job.task);
+    let due = job.due;
+    let deadline = line.deadline;
+    ticks::response(at, due, deadline)
+}
+
+// Late jobs are counted, then the first job, which ended.
+fn tallied(table: TaskTable, list: JobList, monitor: Monitor, at: Tick, late: Late) -> Monitor
+    requires { ⌜ Shaped list × Short table × (at .0 ≤ greatest .0) ⌝ }
+    ensures { λ r. ⌜ r ≡ talliedIn table (view list) at (reported late monitor) ⌝ }
+{
+    let job = jobs::first(list);
+    let response = response_of(table, job, at);
+    let reported = monitor::with_late(monitor, late);
+    monitor::with_ended(reported, job.task, response)
+}
+
+// A refused call: nothing changes.
+fn refused(s: State, number: u8) -> Stepped
+    requires { ⌜ Shaped (s .list) ⌝ }
+    ensures { λ r. ⌜ r ≡ refusedOf s number ⌝ }
+{
+    let answer = Answer {
+        result: number,
+        running: running(s.list),
+        call: KernelCall::NoCall,
+        late: jobs::none_late(),
+    };
+    Stepped { state: s, answer }
+}
+
+// What an accepted call leaves, and its answer.
+fn accepted(table: TaskTable, at: Tick, late: Late, monitor: Monitor, change: Change) -> Stepped
+    requires { ⌜ Shaped (change .list) ⌝ }
+    ensures { λ r. ⌜ r ≡ acceptedOf table at late monitor change ⌝ }
+{
+    let list = change.list;
+    let call = change.call;
+    let answer = Answer {
+        result: 0,
+        running: running(list),
+        call,
+        late,
+    };
+    let state = State {
+        table,
+        last: at,
+        list,
+        monitor,
+    };
+    Stepped { state, answer }
+}
+
+// Does nothing. Its contract is all of specs/Claims, so that a claim without a proof fails the check.
+pub fn scheduler_holds()
+    ensures { λ r. ⌜ Claims ⌝ }
+{}

@@ -1,0 +1,33 @@
+-- How a task table is kept by value. Assumes nothing.
+use Prim.Native.Nat.{ℕ, _-_}
+use mathlib.Core.Bool.{not}
+use mathlib.Core.List.{List, [], _∷_, _++_}
+use lib.ListN.{length, take, replicate, getD}
+use Rattle.rules.specs.declared.Line.{Line}
+use Rattle.rules.specs.Words.{_if_else_, within}
+use Rattle.rules.specs.Table.{Table, noLine}
+use Rattle.table.specs.declared.TaskTable.{TaskTable}
+
+-- how many lines are kept
+abbrev pub places : ℕ
+places = 32
+
+-- these lines, and blank ones behind them
+unfoldable pub packed : List Line → TaskTable
+packed ls = record { lines = ls ++ replicate (places - length ls) noLine; count = length ls }
+
+-- the line of a task; a blank one where there is none
+abbrev pub lineAt : List Line → ℕ → Line
+lineAt lines n = getD lines n noLine
+
+-- the lines that a kept table has
+abbrev pub linesIn : TaskTable → List Line
+linesIn t = take (t .count) (t .lines)
+
+-- the table that was given: its first 32 lines were copied, and of those past them only the count is known
+abbrev pub given : TaskTable → Table
+given t = record { lines = linesIn t ++ replicate (t .count - places) noLine }
+
+-- 2 or 3 of a line
+unfoldable pub lineRefusal : Line → ℕ
+lineRefusal x = 2 if not (within 1 1000000000 (x .deadline .0)) else 3 if not (within 1 32 (x .limit)) else 0

@@ -1,0 +1,33 @@
+use native.Mathlib.Omega.{arith}
+use Rattle.ticks.specs.Ticks.{responseBy}
+use borrow.Author.Needs.{needs}
+use Rattle.ticks.proofs.response.Statement.{statement}
+use Rattle.ticks.proofs.response.Tie as tie
+use Rattle.ticks.proofs.response.Reads as reads
+use Rattle.ticks.proofs.response.Lts as lts
+
+-- src/lib.rt:60:16
+add-result : tie.Need-add-result
+add-result c = search needs
+
+-- src/lib.rt:60:9
+returns : tie.Need-returns
+unfolding responseBy
+returns c = omega arith
+
+-- src/lib.rt:62:17
+sub-early : tie.Need-sub-early
+sub-early c = search needs
+
+-- src/lib.rt:64:9
+returns-2 : tie.Need-returns-2
+unfolding responseBy
+returns-2 c = omega arith
+
+-- src/lib.rt:55:1
+returns-3 : tie.Need-returns-3
+unfolding responseBy
+returns-3 c = omega arith
+
+pub response-spec : {M : Type 1} → statement M
+response-spec = tie.close (tie.spec add-result returns sub-early returns-2 returns-3)

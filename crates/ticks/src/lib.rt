@@ -1,0 +1,67 @@
+// Ticks: the one sum of a tick and a relative deadline, and what is asked of ticks.
+ghost use mathlib.Core.Path.{_≡_};
+ghost use Prim.Native.Nat.{_+_, _≤_};
+ghost use Rattle.rules.specs.Table.{greatest};
+ghost use Rattle.rules.specs.Calls.{badTick};
+ghost use Rattle.rules.specs.Late.{isPast};
+ghost use Rattle.ticks.specs.Ticks.{sum, isBeyond, responseBy};
+use rules::Span;
+use rules::Tick;
+
+// The greatest tick.
+pub const GREATEST: u64 = 4611686018427387903;
+
+// The tick after the greatest, which no call may have.
+pub const BEYOND: u64 = GREATEST + 1;
+
+// A tick and a relative deadline, added: the one place where the two meet. Past the greatest tick it gives the tick after that.
+pub fn plus(at: Tick, deadline: Span) -> Tick
+    ensures { λ r. ⌜ r ≡ sum at deadline ⌝ }
+{
+    if GREATEST < deadline.0 {
+        return Tick(BEYOND);
+    }
+    if GREATEST - deadline.0 < at.0 {
+        return Tick(BEYOND);
+    }
+    Tick(at.0 + deadline.0)
+}
+
+// 9: above the greatest tick.
+pub fn is_beyond(due: Tick) -> bool
+    ensures { λ r. ⌜ r ≡ isBeyond due ⌝ }
+{
+    GREATEST < due.0
+}
+
+// 8: below the last accepted call's tick, or above the greatest tick.
+pub fn bad_tick(last: Tick, at: Tick) -> bool
+    ensures { λ r. ⌜ r ≡ badTick last at ⌝ }
+{
+    if at.0 < last.0 {
+        return true;
+    }
+    GREATEST < at.0
+}
+
+// Whether a pending job with this deadline is late at a call at this tick.
+pub fn is_past(at: Tick, due: Tick) -> bool
+    ensures { λ r. ⌜ r ≡ isPast at due ⌝ }
+{
+    due.0 < at.0
+}
+
+// The response of a job that ends at a tick: its relative deadline, and how long after its deadline it ends (or less, how long before).
+pub fn response(at: Tick, due: Tick, deadline: Span) -> u64
+    requires { ⌜ at .0 + deadline .0 ≤ greatest .0 + greatest .0 ⌝ }
+    ensures { λ r. ⌜ r ≡ responseBy at due deadline ⌝ }
+{
+    if due.0 <= at.0 {
+        return at.0 - due.0 + deadline.0;
+    }
+    let early = due.0 - at.0;
+    if deadline.0 < early {
+        return 0;
+    }
+    deadline.0 - early
+}
