@@ -1,10 +1,10 @@
 -- A list laid out in an array: what `view` and `pack` make of each other. Assumes nothing.
-use Prim.Native.Nat.{ℕ, suc, _+_, _-_, _≤_, _<_}
+use Prim.Native.Nat.{ℕ, _+_, _-_, _≤_, _<_}
 use mathlib.Core.Path.{_≡_, refl, sym, ap, _∙_}
-use mathlib.Core.List.{List, [], _∷_, _++_}
+use mathlib.Core.List.{List, [], _∷_}
 use native.Mathlib.Numerals.{add-one}
 use native.Mathlib.Omega.{arith}
-use lib.ListN.{length, take, drop, getD, length-take, length-append, length-replicate, replicate, drop-of-length-le}
+use lib.ListN.{length, drop, getD, length-take, length-append, length-replicate, replicate, drop-of-length-le}
 use lib.Seq.{drop-cons, getD-take, length-take-le, take-append-seam}
 use Rattle.rules.specs.declared.Job.{Job}
 use Rattle.jobs.specs.declared.JobList.{JobList}

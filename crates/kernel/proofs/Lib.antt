@@ -1,4 +1,5 @@
 pub mod Laws
 pub mod Highest
 pub mod Queue
+pub mod Answers
 pub mod Claims

@@ -1,19 +1,18 @@
 -- What `dispatch` finds is the job that the rule-book's kernel runs with its own ready queue. Assumes nothing.
-use Prim.Native.Nat.{ℕ, zero, suc, _-_, _≤_, _<_}
+use Prim.Native.Nat.{ℕ, _≤_, _<_}
 use mathlib.Core.Path.{_≡_, refl, sym, ap, _∙_, subst⁻¹}
 use mathlib.Core.Bool.{Bool, true, false, cond, _&&_}
 use mathlib.Core.List.{List, [], _∷_, _++_, append-assoc, append-nil, map}
 use mathlib.Core.Option.{Option, some, none}
 use borrow.Author.Tests.{lt-ltb, le-ltb, eq-eqb, eqb-true}
 use lib.Dec.{ltb, eqb}
-use lib.ListN.{length, replicate, getD}
+use lib.ListN.{length, getD}
 use lib.Seq.{append-snoc}
+use Rattle.rules.specs.declared.Job.{Job as Entry}
 use Rattle.rules.specs.declared.Phase.{Phase}
 use Rattle.rules.specs.declared.Phase.the-variants.{Delayed, Released}
 use Rattle.rules.specs.declared.Line.{Line}
-use Rattle.rules.specs.declared.Job.{Job as Entry}
 use Rattle.rules.specs.Words.{All, Pairs}
-use Rattle.rules.specs.Table.{noLine}
 use Rattle.rules.specs.Jobs.{Job}
 use Rattle.rules.specs.Kernel.{higher, dispatched}
 use Rattle.rules.specs.Layer.{fresh, isReleased, isOf, runningIn}
@@ -23,7 +22,7 @@ use Rattle.rules.proofs.Lists.{rest-of, all-append, pairs-over}
 use Rattle.rules.proofs.Listing.{list-holds}
 use Rattle.jobs.specs.Kept.{kept}
 use Rattle.table.proofs.Packed.{kept-line}
-use Rattle.table.specs.Lines.{places, packed, lineAt}
+use Rattle.table.specs.Lines.{packed, lineAt}
 use Rattle.kernel.specs.declared.Found.{Found}
 use Rattle.kernel.specs.declared.Found.the-variants.{At, Nothing}
 use Rattle.kernel.specs.Dispatch.{dispatchOf}

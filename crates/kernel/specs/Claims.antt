@@ -4,17 +4,22 @@ use mathlib.Core.Path.{_≡_}
 use mathlib.Core.List.{List, [], _∷_, _++_, map}
 use mathlib.Core.Option.{Option, some, none}
 use lib.ListN.{length}
+use Rattle.rules.specs.declared.Job.{Job as Entry}
 use Rattle.rules.specs.declared.Phase.the-variants.{Delayed, Released}
 use Rattle.rules.specs.declared.Line.{Line}
-use Rattle.rules.specs.declared.Job.{Job as Entry}
 use Rattle.rules.specs.declared.Call.{Call}
+use Rattle.rules.specs.declared.Choice.{Choice}
+use Rattle.rules.specs.declared.Choice.the-variants.{Idle, Runs}
 use Rattle.rules.specs.Words.{All}
 use Rattle.rules.specs.Table.{Table}
 use Rattle.rules.specs.Jobs.{Job}
 use Rattle.rules.specs.Layer.{fresh, runningJob}
 use Rattle.rules.specs.Run.{run}
+use Rattle.jobs.specs.Listed.{view}
 use Rattle.jobs.specs.Kept.{kept}
 use Rattle.table.specs.Lines.{packed}
+use Rattle.scheduler.specs.declared.State.{State}
+use Rattle.scheduler.specs.State.{Handed, stepOf}
 use Rattle.kernel.specs.declared.Found.{Found}
 use Rattle.kernel.specs.declared.Found.the-variants.{At, Nothing}
 use Rattle.kernel.specs.Dispatch.{priorityIn, dispatchOf}
@@ -37,6 +42,25 @@ DispatchIsKernel =
     (T : Table) (calls : List Call)
     → placed (dispatchOf ((packed (T .lines)) .lines) (map kept ((run T fresh calls) .jobs))) ((run T fresh calls) .jobs)
     ≡ runningJob T (run T fresh calls)
+
+-- ---- the answers of calls
+
+-- how an answer shows the job at a place, and at the place that was found
+abbrev pub choiceAt : ℕ → List Entry → Choice
+choiceAt k [] = Idle
+choiceAt zero (x ∷ xs) = Runs (x .task) (x .due)
+choiceAt (suc k) (x ∷ xs) = choiceAt k xs
+
+abbrev pub choiceFound : Found → List Entry → Choice
+choiceFound Nothing xs = Idle
+choiceFound (At k) xs = choiceAt k xs
+
+-- the running job that a call's answer names is the one that `dispatch` finds in the state that the call leaves
+abbrev pub DispatchIsAnswer : Type 0
+DispatchIsAnswer =
+    (s : State) → Handed s → (e : Call)
+    → choiceFound (dispatchOf ((stepOf s e) .state .table .lines) (view ((stepOf s e) .state .list))) (view ((stepOf s e) .state .list))
+    ≡ (stepOf s e) .answer .running
 
 -- ---- in words of its own
 
@@ -62,4 +86,5 @@ DispatchIsHighest = (lines : List Line) (xs : List Entry) → Chosen lines xs (d
 
 pub record Claims : Type 0 where
   pub dispatch-is-kernel : DispatchIsKernel
+  pub dispatch-is-answer : DispatchIsAnswer
   pub dispatch-is-highest : DispatchIsHighest

@@ -39,7 +39,7 @@ module _ (T : Table) (h : Head) (r : Reached T h) where
   pub reached-keeps : Keeps T
   reached-keeps = keeps-found T (ap (λ (v : Verdict). v .number) (r .accepted))
 
-  reached-board : h .board ≡ run T fresh (r .calls)
+  pub reached-board : h .board ≡ run T fresh (r .calls)
   reached-board = ap (λ (z : Head). z .board) (r .is) ∙ head-board T freshHead (r .calls)
 
   pub reached-good : Good T (Higher T) (h .board)

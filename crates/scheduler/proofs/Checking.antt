@@ -1,10 +1,9 @@
 -- What the check hands out. Assumes nothing.
 use Prim.Native.Nat.{ℕ, zero, suc, _≤_}
 use mathlib.Core.Path.{_≡_, refl, sym, ap, _∙_, subst⁻¹}
-use mathlib.Core.List.{List, []}
+use mathlib.Core.List.{[]}
 use native.Mathlib.Omega.{arith}
 use lib.ListN.{length}
-use Rattle.rules.specs.declared.Line.{Line}
 use Rattle.rules.specs.declared.Verdict.{Verdict}
 use Rattle.rules.specs.Words.{unless}
 use Rattle.rules.specs.Table.{Table, check}

@@ -1,17 +1,17 @@
 -- What a function's proof may use of a state that was handed out. Assumes nothing.
-use Prim.Native.Nat.{ℕ, suc, _+_, _-_, _≤_, _<_}
-use mathlib.Core.Path.{_≡_, refl, sym, ap, _∙_, subst, subst⁻¹}
-use mathlib.Core.Bool.{Bool, true, false, cond}
+use Prim.Native.Nat.{ℕ, _≤_, _<_}
+use mathlib.Core.Path.{_≡_, refl, sym, ap, _∙_, subst⁻¹}
+use mathlib.Core.Bool.{Bool, true, false}
 use mathlib.Core.List.{List, [], _∷_, map}
 use mathlib.Core.Option.{none}
 use native.Mathlib.Omega.{arith}
 use native.Mathlib.Decide.{decLt}
 use lib.ListN.{length, take, List·getD-eq-default}
+use Rattle.rules.specs.declared.Job.{Job as Entry}
 use Rattle.rules.specs.declared.Tick.{Tick}
 use Rattle.rules.specs.declared.Line.{Line}
 use Rattle.rules.specs.declared.Phase.{Phase}
 use Rattle.rules.specs.declared.Phase.the-variants.{Delayed, Released}
-use Rattle.rules.specs.declared.Job.{Job as Entry}
 use Rattle.rules.specs.declared.Choice.the-variants.{Idle, Runs}
 use Rattle.rules.specs.declared.KernelCall.the-variants.{TerminateTask}
 use Rattle.rules.specs.declared.Late.{Late}
@@ -27,7 +27,6 @@ use Rattle.rules.specs.Statement.{firstTask}
 use Rattle.rules.proofs.Order.{Higher}
 use Rattle.rules.proofs.Allowed.{allowed}
 use Rattle.rules.proofs.Reached.{reached-next, reached-good, reached-room, reached-task, reached-keeps}
-use Rattle.table.specs.Lines.{packed, lineAt}
 use Rattle.jobs.specs.Listed.{places, view, pack, Shaped, Sorted, isFirstIn, insertDue, removeAt, firstIn, releaseFirst}
 use Rattle.jobs.specs.declared.JobList.{JobList}
 use Rattle.jobs.specs.Kept.{kept}
@@ -47,7 +46,7 @@ use Rattle.scheduler.proofs.Rows.{refusalIn, rows-are}
 use Rattle.scheduler.proofs.Whole.{lateOf, movedOf, endedOf, acceptedIn, refused-is, accepted-is}
 
 -- what holds of every table and head that is reached holds of every state that was handed out
-handed-by : (P : State → Type 0) → ((T : Table) (h : Head) → Reached T h → P (stateOf T h)) → (s : State) → Handed s → P s
+pub handed-by : (P : State → Type 0) → ((T : Table) (h : Head) → Reached T h → P (stateOf T h)) → (s : State) → Handed s → P s
 handed-by P p s d = subst⁻¹ P (d .is) (p (d .table) (d .head) (d .reached))
 
 -- ---- the state

@@ -1,22 +1,21 @@
 -- The parts of a call, on jobs as they are kept, are what the rule-book says of the jobs. Assumes nothing.
-use Prim.Native.Nat.{ℕ, suc, _+_, _-_}
+use Prim.Native.Nat.{ℕ, suc}
 use mathlib.Core.Path.{_≡_, refl, sym, ap, _∙_}
 use mathlib.Core.Bool.{Bool, true, false, cond, not, _&&_}
 use mathlib.Core.List.{List, [], _∷_, map}
-use mathlib.Core.Option.{some}
 use native.Mathlib.Omega.{arith}
 use lib.Dec.{eqb}
 use lib.ListN.{length, drop}
+use Rattle.rules.specs.declared.Job.{Job as Entry}
 use Rattle.rules.specs.declared.Tick.{Tick}
 use Rattle.rules.specs.declared.Line.{Line}
 use Rattle.rules.specs.declared.Phase.{Phase}
 use Rattle.rules.specs.declared.Phase.the-variants.{Delayed, Released}
-use Rattle.rules.specs.declared.Job.{Job as Entry}
 use Rattle.rules.specs.declared.Tally.{Tally}
 use Rattle.rules.specs.declared.KernelCall.the-variants.{NoCall, ActivateTask, TerminateTask}
-use Rattle.rules.specs.Words.{only, count, All, Pairs}
-use Rattle.rules.specs.Table.{Table, plus, deadlineOf}
-use Rattle.rules.specs.Jobs.{Job, Pending, accepted, bare, newJob, before, keyAt}
+use Rattle.rules.specs.Words.{only, count, All}
+use Rattle.rules.specs.Table.{Table, deadlineOf}
+use Rattle.rules.specs.Jobs.{Job, Pending, bare, newJob, before, keyAt}
 use Rattle.rules.specs.Late.{isPast, newlyLate, markedAt}
 use Rattle.rules.specs.Layer.{Moved, insert, isFirst, entered, settledBy, settled, shown, tasks}
 use Rattle.rules.specs.Counts.{endedMore, onTask, withEnded, responseOf}

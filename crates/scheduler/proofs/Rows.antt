@@ -4,9 +4,9 @@ use mathlib.Core.Path.{_≡_, refl, sym, ap, _∙_}
 use mathlib.Core.List.{List, [], _∷_, map}
 use lib.Dec.{leb, eqb, eqb·suc-zero}
 use lib.ListN.{length, drop}
+use Rattle.rules.specs.declared.Job.{Job as Entry}
 use Rattle.rules.specs.declared.Tick.{Tick}
 use Rattle.rules.specs.declared.Line.{Line}
-use Rattle.rules.specs.declared.Job.{Job as Entry}
 use Rattle.rules.specs.declared.Call.{Call}
 use Rattle.rules.specs.declared.Call.the-variants.{Wait, Activate, Terminate, Chain}
 use Rattle.rules.specs.Words.{_if_else_}
@@ -20,7 +20,7 @@ use Rattle.rules.proofs.Reached.{reached-task, reached-leaves}
 use Rattle.ticks.specs.Ticks.{sum, isBeyond}
 use Rattle.ticks.proofs.Laws.{sum-beyond}
 use Rattle.table.specs.Lines.{packed, lineAt}
-use Rattle.jobs.specs.Listed.{view, pack, pendingOf}
+use Rattle.jobs.specs.Listed.{pack, pendingOf}
 use Rattle.jobs.specs.Kept.{kept}
 use Rattle.jobs.proofs.Laid.{view-pack, count-pack}
 use Rattle.scheduler.specs.declared.State.{State}

@@ -1,15 +1,15 @@
 -- A whole call on a state is what the rule-book says of the table and head that the state keeps. Assumes nothing.
 use Prim.Native.Nat.{ℕ, zero, suc, _-_, _≤_}
 use mathlib.Core.Path.{_≡_, refl, sym, ap, _∙_, subst}
-use mathlib.Core.List.{List, [], _∷_, _++_, map}
+use mathlib.Core.List.{List, [], _∷_, map}
 use mathlib.Core.Bool.{true}
 use mathlib.Core.Option.{Option, some, none}
 use native.Mathlib.Omega.{arith}
 use lib.ListN.{length, replicate}
 use lib.Seq.{take-append-seam}
+use Rattle.rules.specs.declared.Job.{Job as Entry}
 use Rattle.rules.specs.declared.Tick.{Tick}
 use Rattle.rules.specs.declared.Line.{Line}
-use Rattle.rules.specs.declared.Job.{Job as Entry}
 use Rattle.rules.specs.declared.Tally.{Tally}
 use Rattle.rules.specs.declared.Late.{Late}
 use Rattle.rules.specs.declared.Call.{Call}
@@ -31,7 +31,7 @@ use Rattle.rules.proofs.Allowed.{Allowed, allowed}
 use Rattle.rules.proofs.Reached.{reached-good, reached-marked, reached-next, reached-runs, reached-task, reached-leaves}
 use Rattle.ticks.specs.Ticks.{sum}
 use Rattle.ticks.proofs.Laws.{sum-near}
-use Rattle.table.specs.Lines.{packed, lineAt}
+use Rattle.table.specs.Lines.{packed}
 use Rattle.jobs.specs.Listed.{view, pack, removeAt, lateIn, newlyLateIn}
 use Rattle.jobs.specs.Kept.{kept}
 use Rattle.jobs.proofs.Laid.{view-pack}

@@ -1,3 +1,71 @@
--- What is claimed of the check and the calls beside their own promises. Assumes nothing.
+-- All that is claimed of the check and the calls beside their own promises; proofs/Claims.antt proves it. Assumes nothing.
+use mathlib.Core.Path.{_≡_}
+use mathlib.Core.List.{List, [], _∷_, map}
+use Prim.Native.Nat.{ℕ}
+use Rattle.rules.specs.declared.Answer.{Answer}
+use Rattle.rules.specs.declared.Call.{Call}
+use Rattle.rules.specs.declared.Choice.{Choice}
+use Rattle.rules.specs.Table.{Table, fine, check}
+use Rattle.rules.specs.Layer.{fresh}
+use Rattle.rules.specs.Plain.{Plain, start, plainResult, plainChoice, plainNext}
+use Rattle.rules.specs.Run.{answers, Head, freshHead, headRun, Reached}
+use Rattle.table.specs.Lines.{packed}
+use Rattle.scheduler.specs.declared.State.{State}
+use Rattle.scheduler.specs.State.{stateOf, tableOf, headOf, Handed, checkedOf, stepOf}
+
+-- table and head, the kernel's ready queue with it, can be read back from a state
+pub record Back (T : Table) (h : Head) : Type 0 where
+  pub table : tableOf (stateOf T h) ≡ T
+  pub head : headOf (stateOf T h) ≡ h
+
+abbrev pub ReadsBack : Type 0
+ReadsBack = (T : Table) (h : Head) → Reached T h → Back T h
+
+-- the check hands out a fresh state of every table that it accepts
+abbrev pub HandsOut : Type 0
+HandsOut = (T : Table) → check T ≡ fine → checkedOf (packed (T .lines)) ≡ record { state = stateOf T freshHead; verdict = fine }
+
+-- a refused call changes nothing in the state
+abbrev pub RefusedUnchanged : Type 0
+RefusedUnchanged = (s : State) → Handed s → (e : Call) → ((stepOf s e) .answer .result ≡ 0 → ⊥) → (stepOf s e) .state ≡ s
+
+-- ---- a whole run: the check, then any sequence of calls
+
+-- the state that the check gives for a table
+abbrev pub checked : Table → State
+checked T = (checkedOf (packed (T .lines))) .state
+
+-- the state after a sequence of calls, and what each call answered
+abbrev pub stateAfter : State → List Call → State
+stateAfter s [] = s
+stateAfter s (e ∷ es) = stateAfter ((stepOf s e) .state) es
+
+abbrev pub answered : State → List Call → List Answer
+answered s [] = []
+answered s (e ∷ es) = (stepOf s e) .answer ∷ answered ((stepOf s e) .state) es
+
+-- the result numbers that the plain scheduler gives the same calls, and the job that it runs after each
+abbrev pub plainResults : Table → Plain → List Call → List ℕ
+plainResults T p [] = []
+plainResults T p (e ∷ es) = plainResult T p e ∷ plainResults T (plainNext T p e) es
+
+abbrev pub plainChoices : Table → Plain → List Call → List Choice
+plainChoices T p [] = []
+plainChoices T p (e ∷ es) = plainChoice T ((plainNext T p e) .pending) ∷ plainChoices T (plainNext T p e) es
+
+pub record Runs (T : Table) (calls : List Call) : Type 0 where
+  -- demand 2: the answers, and the state in the end, are the rule-book's
+  pub answers-are : answered (checked T) calls ≡ answers T fresh calls
+  pub state-is : stateAfter (checked T) calls ≡ stateOf T (headRun T freshHead calls)
+  -- demand 3: result numbers and running jobs are the plain scheduler's
+  pub results-plain : map (λ (a : Answer). a .result) (answered (checked T) calls) ≡ plainResults T start calls
+  pub running-plain : map (λ (a : Answer). a .running) (answered (checked T) calls) ≡ plainChoices T start calls
+
+abbrev pub RunsAsRuled : Type 0
+RunsAsRuled = (T : Table) → check T ≡ fine → (calls : List Call) → Runs T calls
 
 pub record Claims : Type 0 where
+  pub reads-back : ReadsBack
+  pub hands-out : HandsOut
+  pub refused-unchanged : RefusedUnchanged
+  pub runs-as-ruled : RunsAsRuled

@@ -1,10 +1,10 @@
 -- What a state stands for, and what the check and the calls promise: what the rule-book gives for it. Assumes nothing.
-use Prim.Native.Nat.{ℕ, _-_}
+use Prim.Native.Nat.{_-_}
 use mathlib.Core.Path.{_≡_}
-use mathlib.Core.List.{List, [], _∷_, map}
+use mathlib.Core.List.{List, [], map}
+use Rattle.rules.specs.declared.Job.{Job as Entry}
 use Rattle.rules.specs.declared.Tick.{Tick}
 use Rattle.rules.specs.declared.Call.{Call}
-use Rattle.rules.specs.declared.Job.{Job as Entry}
 use Rattle.rules.specs.Words.{unless}
 use Rattle.rules.specs.Table.{Table, check, deadlineOf}
 use Rattle.rules.specs.Jobs.{Job}

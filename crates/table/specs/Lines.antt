@@ -1,7 +1,7 @@
 -- How a task table is kept by value. Assumes nothing.
 use Prim.Native.Nat.{ℕ, _-_}
 use mathlib.Core.Bool.{not}
-use mathlib.Core.List.{List, [], _∷_, _++_}
+use mathlib.Core.List.{List, _++_}
 use lib.ListN.{length, take, replicate, getD}
 use Rattle.rules.specs.declared.Line.{Line}
 use Rattle.rules.specs.Words.{_if_else_, within}

@@ -1,7 +1,7 @@
 -- Laws of ticks: what the sum is within reach and past it, and what a response is. Assumes nothing.
-use Prim.Native.Nat.{ℕ, suc, _+_, _-_, _<_, _≤_, min}
+use Prim.Native.Nat.{ℕ, suc, _+_, _<_, _≤_, min}
 use mathlib.Core.Path.{_≡_, ap, sym, _∙_}
-use mathlib.Core.Bool.{Bool, true, false, _||_}
+use mathlib.Core.Bool.{true, _||_}
 use lib.Dec.{ltb}
 use native.Mathlib.Omega.{arith}
 use native.Mathlib.Decide.{decLe}
@@ -10,7 +10,7 @@ use Rattle.rules.specs.declared.Tick.{Tick}
 use Rattle.rules.specs.declared.Span.{Span}
 use Rattle.rules.specs.Table.{greatest, plus}
 use Rattle.rules.specs.Calls.{badTick}
-use Rattle.ticks.specs.Ticks.{sum, isBeyond, responseBy}
+use Rattle.ticks.specs.Ticks.{sum, isBeyond}
 
 abbrev tickAt : ℕ → Tick
 tickAt n = record { 0 = n }

@@ -1,15 +1,12 @@
 use borrow.Author.Needs.{needs}
 use mathlib.Core.Path.{_≡_, refl, sym, _∙_}
-use Prim.Native.Nat.{_+_, _-_, _≤_}
+use Prim.Native.Nat.{_-_, _≤_}
 use native.Mathlib.Omega.{arith}
 use lib.ListN.{length, length-set}
 use Rattle.jobs.specs.Listed.{places, closeAt}
 use Rattle.jobs.proofs.Shifts.{close-step, close-end}
 use Rattle.jobs.proofs.closed.Statement.{statement}
 use Rattle.jobs.proofs.closed.Tie as tie
-use Rattle.jobs.proofs.closed.Reads as reads
-use Rattle.jobs.proofs.closed.Lts as lts
-use Rattle.jobs.proofs.blank.Reads as blank-reads
 
 abbrev Inv-loop : tie.InvT-loop
 Inv-loop at end out₀ last i₀ out i = (i ≤ last) × (length out ≡ places) × (closeAt i end out ≡ closeAt i₀ end out₀)

@@ -1,10 +1,7 @@
-use borrow.Author.Needs.{needs}
 use mathlib.Core.Path.{refl}
 use Rattle.jobs.specs.Listed.{pack}
 use Rattle.jobs.proofs.empty.Statement.{statement}
 use Rattle.jobs.proofs.empty.Tie as tie
-use Rattle.jobs.proofs.empty.Reads as reads
-use Rattle.jobs.proofs.empty.Lts as lts
 
 -- src/lib.rt:31:1
 returns : tie.Need-returns

@@ -2,8 +2,6 @@ use Rattle.jobs.proofs.Scans.{first-law}
 use borrow.Author.Needs.{needs}
 use Rattle.jobs.proofs.first.Statement.{statement}
 use Rattle.jobs.proofs.first.Tie as tie
-use Rattle.jobs.proofs.first.Reads as reads
-use Rattle.jobs.proofs.first.Lts as lts
 
 -- src/lib.rt:163:5
 element-copy-out-result : tie.Need-element-copy-out-result

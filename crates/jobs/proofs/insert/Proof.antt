@@ -6,10 +6,6 @@ use Rattle.jobs.proofs.Shifts.{insert-law}
 use borrow.Author.Needs.{needs}
 use Rattle.jobs.proofs.insert.Statement.{statement}
 use Rattle.jobs.proofs.insert.Tie as tie
-use Rattle.jobs.proofs.insert.Reads as reads
-use Rattle.jobs.proofs.insert.Lts as lts
-use Rattle.jobs.proofs.opened.Reads as opened-reads
-use Rattle.jobs.proofs.place.Reads as place-reads
 
 -- src/lib.rt:115:9
 place-requires : tie.Need-place-requires

@@ -4,9 +4,6 @@ use Rattle.jobs.proofs.Scans.{is-first-law}
 use borrow.Author.Needs.{needs}
 use Rattle.jobs.proofs.is_first.Statement.{statement}
 use Rattle.jobs.proofs.is_first.Tie as tie
-use Rattle.jobs.proofs.is_first.Reads as reads
-use Rattle.jobs.proofs.is_first.Lts as lts
-use Rattle.jobs.proofs.goes_before.Reads as goes-before-reads
 
 -- src/lib.rt:104:9
 returns : tie.Need-returns

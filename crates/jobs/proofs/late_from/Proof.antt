@@ -8,11 +8,6 @@ use Rattle.jobs.proofs.Laid.{view-step, view-end}
 use Rattle.jobs.proofs.Lates.{lateScan, scan-none, scan-stop, scan-next, step-count, none-count, scan-law}
 use Rattle.jobs.proofs.late_from.Statement.{statement}
 use Rattle.jobs.proofs.late_from.Tie as tie
-use Rattle.jobs.proofs.late_from.Reads as reads
-use Rattle.jobs.proofs.late_from.Lts as lts
-use Rattle.jobs.proofs.late_step.Reads as late-step-reads
-use Rattle.jobs.proofs.none_late.Reads as none-late-reads
-use Rattle.ticks.proofs.is_past.Reads as is-past-reads
 
 abbrev Inv-loop : tie.InvT-loop
 Inv-loop last at list n late₀ i₀ late i = (i ≤ n) × (late .count ≤ i) × (lateScan last at late (drop i (view list)) ≡ lateScan last at late₀ (view list))

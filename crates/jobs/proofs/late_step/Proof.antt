@@ -3,9 +3,6 @@ use Rattle.jobs.proofs.Lates.{step-before, step-now}
 use borrow.Author.Needs.{needs}
 use Rattle.jobs.proofs.late_step.Statement.{statement}
 use Rattle.jobs.proofs.late_step.Tie as tie
-use Rattle.jobs.proofs.late_step.Reads as reads
-use Rattle.jobs.proofs.late_step.Lts as lts
-use Rattle.ticks.proofs.is_past.Reads as is-past-reads
 
 -- src/lib.rt:192:8
 is-past-requires : tie.Need-is-past-requires

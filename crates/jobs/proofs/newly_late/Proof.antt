@@ -4,11 +4,6 @@ use Rattle.jobs.proofs.Lates.{late-empty, late-stop}
 use borrow.Author.Needs.{needs}
 use Rattle.jobs.proofs.newly_late.Statement.{statement}
 use Rattle.jobs.proofs.newly_late.Tie as tie
-use Rattle.jobs.proofs.newly_late.Reads as reads
-use Rattle.jobs.proofs.newly_late.Lts as lts
-use Rattle.jobs.proofs.late_from.Reads as late-from-reads
-use Rattle.jobs.proofs.none_late.Reads as none-late-reads
-use Rattle.ticks.proofs.is_past.Reads as is-past-reads
 
 -- src/lib.rt:237:9
 none-late-requires : tie.Need-none-late-requires

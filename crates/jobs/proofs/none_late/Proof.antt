@@ -1,10 +1,7 @@
-use borrow.Author.Needs.{needs}
 use mathlib.Core.Path.{refl}
 use Rattle.jobs.specs.Listed.{lateIn}
 use Rattle.jobs.proofs.none_late.Statement.{statement}
 use Rattle.jobs.proofs.none_late.Tie as tie
-use Rattle.jobs.proofs.none_late.Reads as reads
-use Rattle.jobs.proofs.none_late.Lts as lts
 
 -- src/lib.rt:205:1
 returns : tie.Need-returns

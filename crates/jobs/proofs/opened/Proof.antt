@@ -7,8 +7,6 @@ use Rattle.jobs.specs.Listed.{places, openAt}
 use Rattle.jobs.proofs.Shifts.{open-step, open-end}
 use Rattle.jobs.proofs.opened.Statement.{statement}
 use Rattle.jobs.proofs.opened.Tie as tie
-use Rattle.jobs.proofs.opened.Reads as reads
-use Rattle.jobs.proofs.opened.Lts as lts
 
 abbrev Inv-loop : tie.InvT-loop
 Inv-loop at end out₀ carry₀ i₀ out carry i = (i ≤ end) × (length out ≡ places) × (openAt i end carry out ≡ openAt i₀ end carry₀ out₀)

@@ -9,8 +9,6 @@ use Rattle.jobs.proofs.Laid.{view-step, view-end}
 use Rattle.jobs.proofs.Scans.{pending-here, pending-next, pending-none}
 use Rattle.jobs.proofs.pending_from.Statement.{statement}
 use Rattle.jobs.proofs.pending_from.Tie as tie
-use Rattle.jobs.proofs.pending_from.Reads as reads
-use Rattle.jobs.proofs.pending_from.Lts as lts
 
 abbrev Inv-loop : tie.InvT-loop
 Inv-loop start task list n found₀ i₀ found i = (i ≤ n) × (found ≤ i) × (found + pendingOf task (drop i (view list)) ≡ pendingOf task (drop start (view list)))

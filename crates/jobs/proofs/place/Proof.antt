@@ -8,9 +8,6 @@ use Rattle.jobs.proofs.Laid.{view-step, view-end}
 use Rattle.jobs.proofs.Scans.{place-here, place-next, place-none}
 use Rattle.jobs.proofs.place.Statement.{statement}
 use Rattle.jobs.proofs.place.Tie as tie
-use Rattle.jobs.proofs.place.Reads as reads
-use Rattle.jobs.proofs.place.Lts as lts
-use Rattle.jobs.proofs.goes_before.Reads as goes-before-reads
 
 abbrev Inv-loop : tie.InvT-loop
 Inv-loop job list n i₀ i = (i ≤ n) × (i + placeOf job (drop i (view list)) ≡ placeOf job (view list))

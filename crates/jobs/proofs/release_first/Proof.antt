@@ -8,8 +8,6 @@ use Rattle.jobs.proofs.Scans.{release-law}
 use borrow.Author.Needs.{needs}
 use Rattle.jobs.proofs.release_first.Statement.{statement}
 use Rattle.jobs.proofs.release_first.Tie as tie
-use Rattle.jobs.proofs.release_first.Reads as reads
-use Rattle.jobs.proofs.release_first.Lts as lts
 
 -- src/lib.rt:171:17
 array-copy-out-first : tie.Need-array-copy-out-first

@@ -2,9 +2,6 @@ use Rattle.jobs.proofs.Shifts.{remove-law}
 use borrow.Author.Needs.{needs}
 use Rattle.jobs.proofs.remove.Statement.{statement}
 use Rattle.jobs.proofs.remove.Tie as tie
-use Rattle.jobs.proofs.remove.Reads as reads
-use Rattle.jobs.proofs.remove.Lts as lts
-use Rattle.jobs.proofs.closed.Reads as closed-reads
 
 -- src/lib.rt:133:15
 closed-requires : tie.Need-closed-requires

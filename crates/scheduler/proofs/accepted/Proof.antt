@@ -1,11 +1,7 @@
-use mathlib.Core.Path.{refl}
 use Rattle.scheduler.specs.Steps.{acceptedOf}
 use borrow.Author.Needs.{needs}
 use Rattle.scheduler.proofs.accepted.Statement.{statement}
 use Rattle.scheduler.proofs.accepted.Tie as tie
-use Rattle.scheduler.proofs.accepted.Reads as reads
-use Rattle.scheduler.proofs.accepted.Lts as lts
-use Rattle.scheduler.proofs.running.Reads as running-reads
 
 -- src/lib.rt:357:18
 running-requires : tie.Need-running-requires

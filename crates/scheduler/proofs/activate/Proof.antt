@@ -12,15 +12,6 @@ use Rattle.scheduler.proofs.Facts.{handed-shaped, handed-sorted, handed
 use borrow.Author.Needs.{needs}
 use Rattle.scheduler.proofs.activate.Statement.{statement}
 use Rattle.scheduler.proofs.activate.Tie as tie
-use Rattle.scheduler.proofs.activate.Reads as reads
-use Rattle.scheduler.proofs.activate.Lts as lts
-use Rattle.jobs.proofs.newly_late.Reads as newly-late-reads
-use Rattle.monitor.proofs.with_late.Reads as with-late-reads
-use Rattle.scheduler.proofs.accepted.Reads as accepted-reads
-use Rattle.scheduler.proofs.activate_refusal.Reads as activate-refusal-reads
-use Rattle.scheduler.proofs.asked.Reads as asked-reads
-use Rattle.scheduler.proofs.entered.Reads as entered-reads
-use Rattle.scheduler.proofs.refused.Reads as refused-reads
 
 -- the number that is found
 number : (c : tie.After-activate-refusal) → c .activate-refusal .result ≡ refusalIn (c .before .before .args .s) (Activate (c .before .before .args .at) (c .before .before .args .task))

@@ -1,12 +1,7 @@
-use mathlib.Core.Path.{refl}
 use Rattle.scheduler.specs.Steps.{askedOf}
 use borrow.Author.Needs.{needs}
 use Rattle.scheduler.proofs.asked.Statement.{statement}
 use Rattle.scheduler.proofs.asked.Tie as tie
-use Rattle.scheduler.proofs.asked.Reads as reads
-use Rattle.scheduler.proofs.asked.Lts as lts
-use Rattle.table.proofs.line_of.Reads as line-of-reads
-use Rattle.ticks.proofs.plus.Reads as plus-reads
 
 -- src/lib.rt:221:9
 line-of-requires : tie.Need-line-of-requires

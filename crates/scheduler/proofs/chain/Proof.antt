@@ -1,5 +1,4 @@
 use mathlib.Core.Path.{_≡_, sym, ap, _∙_, subst⁻¹}
-use native.Mathlib.Omega.{arith}
 use Rattle.rules.specs.declared.Call.the-variants.{Chain}
 use Rattle.jobs.specs.declared.JobList.{JobList}
 use Rattle.jobs.specs.Listed.{view, Shaped, removeAt}
@@ -13,16 +12,6 @@ use Rattle.scheduler.proofs.Facts.{handed-shaped, handed-sorted, handed
 use borrow.Author.Needs.{needs}
 use Rattle.scheduler.proofs.chain.Statement.{statement}
 use Rattle.scheduler.proofs.chain.Tie as tie
-use Rattle.scheduler.proofs.chain.Reads as reads
-use Rattle.scheduler.proofs.chain.Lts as lts
-use Rattle.jobs.proofs.newly_late.Reads as newly-late-reads
-use Rattle.jobs.proofs.remove.Reads as remove-reads
-use Rattle.scheduler.proofs.accepted.Reads as accepted-reads
-use Rattle.scheduler.proofs.asked.Reads as asked-reads
-use Rattle.scheduler.proofs.chain_refusal.Reads as chain-refusal-reads
-use Rattle.scheduler.proofs.chained.Reads as chained-reads
-use Rattle.scheduler.proofs.refused.Reads as refused-reads
-use Rattle.scheduler.proofs.tallied.Reads as tallied-reads
 
 -- the number that is found
 number : (c : tie.After-chain-refusal) → c .chain-refusal .result ≡ refusalIn (c .before .before .args .s) (Chain (c .before .before .args .at) (c .before .before .args .task))

@@ -10,11 +10,6 @@ use Rattle.scheduler.proofs.Facts.{row-here, row-next}
 use borrow.Author.Needs.{needs}
 use Rattle.scheduler.proofs.chain_refusal.Statement.{statement}
 use Rattle.scheduler.proofs.chain_refusal.Tie as tie
-use Rattle.scheduler.proofs.chain_refusal.Reads as reads
-use Rattle.scheduler.proofs.chain_refusal.Lts as lts
-use Rattle.jobs.proofs.pending_from.Reads as pending-from-reads
-use Rattle.ticks.proofs.bad_tick.Reads as bad-tick-reads
-use Rattle.ticks.proofs.is_beyond.Reads as is-beyond-reads
 
 -- what is known past each row
 not-8 : (c : tie.Else1) → badTick (c .before .before .before .args .last) (c .before .before .before .args .new .at) ≡ false

@@ -7,10 +7,6 @@ use Rattle.scheduler.specs.Steps.{settledIn, chainedIn}
 use borrow.Author.Needs.{needs}
 use Rattle.scheduler.proofs.chained.Statement.{statement}
 use Rattle.scheduler.proofs.chained.Tie as tie
-use Rattle.scheduler.proofs.chained.Reads as reads
-use Rattle.scheduler.proofs.chained.Lts as lts
-use Rattle.jobs.proofs.insert.Reads as insert-reads
-use Rattle.scheduler.proofs.settled.Reads as settled-reads
 
 -- src/lib.rt:308:9
 insert-requires : tie.Need-insert-requires

@@ -1,16 +1,10 @@
-use mathlib.Core.Path.{_≡_, sym, ap, _∙_}
+use mathlib.Core.Path.{_≡_, _∙_}
 use lib.ListN.{length, length-map}
 use Rattle.table.specs.Lines.{places}
 use Rattle.scheduler.proofs.Checking.{checked-refused, checked-accepted, checked-few, checked-lines}
 use borrow.Author.Needs.{needs}
 use Rattle.scheduler.proofs.check.Statement.{statement}
 use Rattle.scheduler.proofs.check.Tie as tie
-use Rattle.scheduler.proofs.check.Reads as reads
-use Rattle.scheduler.proofs.check.Lts as lts
-use Rattle.scheduler.proofs.fresh.Reads as fresh-reads
-use Rattle.table.proofs.check.Reads as check-reads
-use Rattle.table.proofs.empty.Reads as empty-reads
-use Rattle.table.proofs.kept.Reads as kept-reads
 
 -- a table has all its places
 full : (c : tie.Start) → length (c .args .given .lines) ≡ places

@@ -1,12 +1,8 @@
-use mathlib.Core.Path.{sym, ap, _∙_}
+use mathlib.Core.Path.{sym, _∙_}
 use Rattle.scheduler.proofs.Facts.{entered-as}
 use borrow.Author.Needs.{needs}
 use Rattle.scheduler.proofs.entered.Statement.{statement}
 use Rattle.scheduler.proofs.entered.Tie as tie
-use Rattle.scheduler.proofs.entered.Reads as reads
-use Rattle.scheduler.proofs.entered.Lts as lts
-use Rattle.jobs.proofs.insert.Reads as insert-reads
-use Rattle.jobs.proofs.is_first.Reads as is-first-reads
 
 -- src/lib.rt:254:8
 is-first-requires : tie.Need-is-first-requires

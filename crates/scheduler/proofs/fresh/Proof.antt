@@ -1,11 +1,6 @@
-use mathlib.Core.Path.{refl}
 use borrow.Author.Needs.{needs}
 use Rattle.scheduler.proofs.fresh.Statement.{statement}
 use Rattle.scheduler.proofs.fresh.Tie as tie
-use Rattle.scheduler.proofs.fresh.Reads as reads
-use Rattle.scheduler.proofs.fresh.Lts as lts
-use Rattle.jobs.proofs.empty.Reads as empty-reads
-use Rattle.monitor.proofs.none.Reads as none-reads
 
 -- src/lib.rt:82:15
 empty-requires : tie.Need-empty-requires

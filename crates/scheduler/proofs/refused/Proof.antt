@@ -1,12 +1,7 @@
-use mathlib.Core.Path.{refl}
 use Rattle.scheduler.specs.Steps.{refusedOf}
 use borrow.Author.Needs.{needs}
 use Rattle.scheduler.proofs.refused.Statement.{statement}
 use Rattle.scheduler.proofs.refused.Tie as tie
-use Rattle.scheduler.proofs.refused.Reads as reads
-use Rattle.scheduler.proofs.refused.Lts as lts
-use Rattle.jobs.proofs.none_late.Reads as none-late-reads
-use Rattle.scheduler.proofs.running.Reads as running-reads
 
 -- src/lib.rt:341:18
 running-requires : tie.Need-running-requires

@@ -3,10 +3,6 @@ use Rattle.scheduler.specs.Steps.{responseIn}
 use borrow.Author.Needs.{needs}
 use Rattle.scheduler.proofs.response_of.Statement.{statement}
 use Rattle.scheduler.proofs.response_of.Tie as tie
-use Rattle.scheduler.proofs.response_of.Reads as reads
-use Rattle.scheduler.proofs.response_of.Lts as lts
-use Rattle.table.proofs.line_of.Reads as line-of-reads
-use Rattle.ticks.proofs.response.Reads as response-reads
 
 -- src/lib.rt:317:9
 line-of-requires : tie.Need-line-of-requires

@@ -5,9 +5,6 @@ use Rattle.scheduler.proofs.Facts.{choice-none, choice-first}
 use borrow.Author.Needs.{needs}
 use Rattle.scheduler.proofs.running.Statement.{statement}
 use Rattle.scheduler.proofs.running.Tie as tie
-use Rattle.scheduler.proofs.running.Reads as reads
-use Rattle.scheduler.proofs.running.Lts as lts
-use Rattle.jobs.proofs.first.Reads as first-reads
 
 -- src/lib.rt:237:9
 returns : tie.Need-returns

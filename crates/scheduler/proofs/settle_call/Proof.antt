@@ -5,9 +5,6 @@ use Rattle.scheduler.proofs.Facts.{settle-none, settle-first}
 use borrow.Author.Needs.{needs}
 use Rattle.scheduler.proofs.settle_call.Statement.{statement}
 use Rattle.scheduler.proofs.settle_call.Tie as tie
-use Rattle.scheduler.proofs.settle_call.Reads as reads
-use Rattle.scheduler.proofs.settle_call.Lts as lts
-use Rattle.jobs.proofs.first.Reads as first-reads
 
 -- src/lib.rt:277:9
 returns : tie.Need-returns

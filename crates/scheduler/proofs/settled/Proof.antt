@@ -1,12 +1,7 @@
-use mathlib.Core.Path.{refl}
 use Rattle.scheduler.specs.Steps.{settledIn}
 use borrow.Author.Needs.{needs}
 use Rattle.scheduler.proofs.settled.Statement.{statement}
 use Rattle.scheduler.proofs.settled.Tie as tie
-use Rattle.scheduler.proofs.settled.Reads as reads
-use Rattle.scheduler.proofs.settled.Lts as lts
-use Rattle.jobs.proofs.release_first.Reads as release-first-reads
-use Rattle.scheduler.proofs.settle_call.Reads as settle-call-reads
 
 -- src/lib.rt:293:15
 release-first-requires : tie.Need-release-first-requires

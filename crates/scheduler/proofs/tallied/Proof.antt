@@ -1,14 +1,7 @@
-use mathlib.Core.Path.{refl}
 use Rattle.scheduler.specs.Steps.{reported, talliedIn}
 use borrow.Author.Needs.{needs}
 use Rattle.scheduler.proofs.tallied.Statement.{statement}
 use Rattle.scheduler.proofs.tallied.Tie as tie
-use Rattle.scheduler.proofs.tallied.Reads as reads
-use Rattle.scheduler.proofs.tallied.Lts as lts
-use Rattle.jobs.proofs.first.Reads as first-reads
-use Rattle.monitor.proofs.with_ended.Reads as with-ended-reads
-use Rattle.monitor.proofs.with_late.Reads as with-late-reads
-use Rattle.scheduler.proofs.response_of.Reads as response-of-reads
 
 -- src/lib.rt:328:9
 first-requires : tie.Need-first-requires

@@ -12,15 +12,6 @@ use Rattle.scheduler.proofs.Facts.{handed-shaped, handed-sorted, handed
 use borrow.Author.Needs.{needs}
 use Rattle.scheduler.proofs.terminate.Statement.{statement}
 use Rattle.scheduler.proofs.terminate.Tie as tie
-use Rattle.scheduler.proofs.terminate.Reads as reads
-use Rattle.scheduler.proofs.terminate.Lts as lts
-use Rattle.jobs.proofs.newly_late.Reads as newly-late-reads
-use Rattle.jobs.proofs.remove.Reads as remove-reads
-use Rattle.scheduler.proofs.accepted.Reads as accepted-reads
-use Rattle.scheduler.proofs.refused.Reads as refused-reads
-use Rattle.scheduler.proofs.settled.Reads as settled-reads
-use Rattle.scheduler.proofs.tallied.Reads as tallied-reads
-use Rattle.scheduler.proofs.terminate_refusal.Reads as terminate-refusal-reads
 
 -- the call is accepted
 none : (c : tie.Else1) → refusalIn (c .before .before .args .s) (Terminate (c .before .before .args .at)) ≡ 0

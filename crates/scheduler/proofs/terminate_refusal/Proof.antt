@@ -8,9 +8,6 @@ use Rattle.scheduler.specs.Steps.{terminateRefusal}
 use borrow.Author.Needs.{needs}
 use Rattle.scheduler.proofs.terminate_refusal.Statement.{statement}
 use Rattle.scheduler.proofs.terminate_refusal.Tie as tie
-use Rattle.scheduler.proofs.terminate_refusal.Reads as reads
-use Rattle.scheduler.proofs.terminate_refusal.Lts as lts
-use Rattle.ticks.proofs.bad_tick.Reads as bad-tick-reads
 
 -- what is known past the row
 not-8 : (c : tie.Else1) → badTick (c .before .before .args .last) (c .before .before .args .at) ≡ false

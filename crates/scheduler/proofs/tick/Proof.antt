@@ -6,13 +6,6 @@ use Rattle.scheduler.proofs.Facts.{handed-shaped, handed-sorted, handed
 use borrow.Author.Needs.{needs}
 use Rattle.scheduler.proofs.tick.Statement.{statement}
 use Rattle.scheduler.proofs.tick.Tie as tie
-use Rattle.scheduler.proofs.tick.Reads as reads
-use Rattle.scheduler.proofs.tick.Lts as lts
-use Rattle.jobs.proofs.newly_late.Reads as newly-late-reads
-use Rattle.monitor.proofs.with_late.Reads as with-late-reads
-use Rattle.scheduler.proofs.accepted.Reads as accepted-reads
-use Rattle.scheduler.proofs.refused.Reads as refused-reads
-use Rattle.ticks.proofs.bad_tick.Reads as bad-tick-reads
 
 -- the call is accepted
 none : (c : tie.Else1) → refusalIn (c .before .before .args .s) (Wait (c .before .before .args .at)) ≡ 0

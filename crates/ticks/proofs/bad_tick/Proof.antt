@@ -3,8 +3,6 @@ use native.Mathlib.Omega.{arith}
 use Rattle.ticks.proofs.Laws.{bad-below, bad-else}
 use Rattle.ticks.proofs.bad_tick.Statement.{statement}
 use Rattle.ticks.proofs.bad_tick.Tie as tie
-use Rattle.ticks.proofs.bad_tick.Reads as reads
-use Rattle.ticks.proofs.bad_tick.Lts as lts
 
 -- src/lib.rt:42:9
 returns : tie.Need-returns

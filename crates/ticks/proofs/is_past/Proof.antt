@@ -2,8 +2,6 @@ use mathlib.Core.Path.{refl}
 use Rattle.rules.specs.Late.{isPast}
 use Rattle.ticks.proofs.is_past.Statement.{statement}
 use Rattle.ticks.proofs.is_past.Tie as tie
-use Rattle.ticks.proofs.is_past.Reads as reads
-use Rattle.ticks.proofs.is_past.Lts as lts
 
 -- src/lib.rt:48:1
 returns : tie.Need-returns

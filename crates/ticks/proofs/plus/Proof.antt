@@ -4,8 +4,6 @@ use Rattle.ticks.proofs.Laws.{sum-near, sum-far}
 use borrow.Author.Needs.{needs}
 use Rattle.ticks.proofs.plus.Statement.{statement}
 use Rattle.ticks.proofs.plus.Tie as tie
-use Rattle.ticks.proofs.plus.Reads as reads
-use Rattle.ticks.proofs.plus.Lts as lts
 
 -- src/lib.rt:22:9
 returns : tie.Need-returns

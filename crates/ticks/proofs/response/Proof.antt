@@ -3,8 +3,6 @@ use Rattle.ticks.specs.Ticks.{responseBy}
 use borrow.Author.Needs.{needs}
 use Rattle.ticks.proofs.response.Statement.{statement}
 use Rattle.ticks.proofs.response.Tie as tie
-use Rattle.ticks.proofs.response.Reads as reads
-use Rattle.ticks.proofs.response.Lts as lts
 
 -- src/lib.rt:60:16
 add-result : tie.Need-add-result
