@@ -21,12 +21,13 @@ use Rattle.rules.specs.Words.{_if_else_}
 use Rattle.rules.specs.Table.{Table, size, noLine, lineOf, greatest, deadlineOf, Passes}
 use Rattle.rules.specs.Jobs.{Job}
 use Rattle.rules.specs.Layer.{running, viewed, result}
-use Rattle.rules.specs.Counts.{withLate}
+use Rattle.rules.specs.Counts.{withLate, endedMore, onTask}
 use Rattle.rules.specs.Run.{Head, headNext, Reached}
 use Rattle.rules.specs.Statement.{firstTask}
 use Rattle.rules.proofs.Order.{Higher}
 use Rattle.rules.proofs.Allowed.{allowed}
 use Rattle.rules.proofs.Reached.{reached-next, reached-good, reached-room, reached-task, reached-keeps}
+use Rattle.table.specs.declared.TaskTable.{TaskTable}
 use Rattle.jobs.specs.Listed.{places, view, pack, Shaped, Sorted, isFirstIn, insertDue, removeAt, firstIn, releaseFirst}
 use Rattle.jobs.specs.declared.JobList.{JobList}
 use Rattle.jobs.specs.Kept.{kept}
@@ -39,7 +40,7 @@ use Rattle.scheduler.specs.declared.State.{State}
 use Rattle.scheduler.specs.declared.Stepped.{Stepped}
 use Rattle.scheduler.specs.declared.Change.{Change}
 use Rattle.scheduler.specs.State.{stateOf, Handed, told, stepOf}
-use Rattle.scheduler.specs.Steps.{choiceIn, settleAs, settleCall, enteredAs, enteredIn, settledIn, chainedIn, jobAs, Short, reported, talliedIn, refusedOf, acceptedOf}
+use Rattle.scheduler.specs.Steps.{choiceIn, settleAs, settleCall, enteredAs, enteredIn, settledIn, chainedIn, jobAs, Short, responseIn, reported, talliedIn, refusedOf, acceptedOf}
 use Rattle.scheduler.proofs.Back.{line-is, step-is}
 use Rattle.scheduler.proofs.Parts.{length-kept, length-tasks, sorted-is}
 use Rattle.scheduler.proofs.Rows.{refusalIn, rows-are}
@@ -226,3 +227,11 @@ settle-first l s n p e = settle-some (view l) (λ z. n (sym (view-length l s) �
 pub entered-as : (n : ℕ) (due : Tick) (xs : List Entry) (f : Bool) → isFirstIn (jobAs n due Delayed) xs ≡ f → enteredIn n due xs ≡ enteredAs n due xs f
 unfolding enteredIn
 entered-as n due xs f e = ap (enteredAs n due xs) e
+
+-- late jobs are counted, then the first job
+pub tallied-by : (t : TaskTable) (xs : List Entry) (at : Tick) (late : Late) (c : Monitor) (x : Entry) (k : ℕ) (m : Monitor)
+    → x ≡ firstIn xs → k ≡ responseIn t x at → m ≡ counts (withLate (tasksOf late) (c .tallies))
+    → counts (onTask (x .task) (endedMore k) (m .tallies)) ≡ talliedIn t xs at (reported late c)
+unfolding reported talliedIn
+tallied-by t xs at late c x k m e f g =
+    λ i. counts (onTask (e i .task) (endedMore ((f ∙ ap (λ (y : Entry). responseIn t y at) e) i)) (g i .tallies))

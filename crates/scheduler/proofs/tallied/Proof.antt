@@ -1,4 +1,5 @@
-use Rattle.scheduler.specs.Steps.{reported, talliedIn}
+use mathlib.Core.Path.{_∙_}
+use Rattle.scheduler.proofs.Facts.{tallied-by}
 use borrow.Author.Needs.{needs}
 use Rattle.scheduler.proofs.tallied.Statement.{statement}
 use Rattle.scheduler.proofs.tallied.Tie as tie
@@ -21,8 +22,10 @@ with-ended-requires c κs = search needs
 
 -- src/lib.rt:324:1
 returns : tie.Need-returns
-unfolding reported talliedIn
-returns c = rw (c .with-ended .ensures, c .before .with-late .ensures, c .before .before .response-of .ensures, c .before .before .before .first .ensures)
+returns c =
+    let a = c .before .before .before .before .args in
+    c .with-ended .ensures
+    ∙ tallied-by (a .table) _ (a .at) (a .late) (a .monitor) _ _ _ (c .before .before .before .first .ensures) (c .before .before .response-of .ensures) (c .before .with-late .ensures)
 
 pub tallied-spec : {M : Type 1} → statement M
 tallied-spec =
