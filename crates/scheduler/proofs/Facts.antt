@@ -224,10 +224,6 @@ settle-some (x ∷ xs) n = refl
 pub settle-first : (l : JobList) → Shaped l → (l .count ≡ 0 → ⊥) → (p : Phase) → firstIn (view l) .phase ≡ p → settleCall (view l) ≡ settleAs p (firstIn (view l) .task)
 settle-first l s n p e = settle-some (view l) (λ z. n (sym (view-length l s) ∙ z)) ∙ ap (λ (q : Phase). settleAs q (firstIn (view l) .task)) e
 
-pub entered-as : (n : ℕ) (due : Tick) (xs : List Entry) (f : Bool) → isFirstIn (jobAs n due Delayed) xs ≡ f → enteredIn n due xs ≡ enteredAs n due xs f
-unfolding enteredIn
-entered-as n due xs f e = ap (enteredAs n due xs) e
-
 -- late jobs are counted, then the first job
 pub tallied-by : (t : TaskTable) (xs : List Entry) (at : Tick) (late : Late) (c : Monitor) (x : Entry) (k : ℕ) (m : Monitor)
     → x ≡ firstIn xs → k ≡ responseIn t x at → m ≡ counts (withLate (tasksOf late) (c .tallies))

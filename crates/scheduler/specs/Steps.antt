@@ -1,6 +1,6 @@
 -- The parts of a call, over plain lists of jobs as they are kept. No public promise names them. Assumes nothing.
 use Prim.Native.Nat.{ℕ, _≤_}
-use mathlib.Core.Bool.{Bool, cond}
+use mathlib.Core.Bool.{Bool, true, false}
 use mathlib.Core.List.{List, [], _∷_}
 use lib.Dec.{leb, eqb}
 use lib.ListN.{drop}
@@ -64,13 +64,18 @@ choiceIn [] = Idle
 choiceIn (x ∷ xs) = Runs (x .task) (x .due)
 
 abbrev pub jobAs : ℕ → Tick → Phase → Job
-jobAs n due p = record { task = n; due = due; phase = p }
+jobAs n due p = record { due = due; task = n; phase = p }
+
+abbrev pub entryPhase : Bool → Phase
+entryPhase true = Released
+entryPhase false = Delayed
+
+abbrev pub entryCall : Bool → ℕ → KernelCall
+entryCall true n = ActivateTask n
+entryCall false n = NoCall
 
 abbrev pub enteredAs : ℕ → Tick → List Job → Bool → Change
-enteredAs n due xs f =
-    cond f
-    (record { list = pack (insertDue (jobAs n due Released) xs); call = ActivateTask n })
-    (record { list = pack (insertDue (jobAs n due Delayed) xs); call = NoCall })
+enteredAs n due xs f = record { list = pack (insertDue (jobAs n due (entryPhase f)) xs); call = entryCall f n }
 
 unfoldable pub enteredIn : ℕ → Tick → List Job → Change
 enteredIn n due xs = enteredAs n due xs (isFirstIn (jobAs n due Delayed) xs)

@@ -4,7 +4,7 @@ ghost use Prim.Native.Nat.{_≤_, _<_};
 ghost use Rattle.rules.specs.declared.Call.the-variants.{Wait, Activate, Terminate, Chain};
 ghost use Rattle.jobs.specs.Listed.{places, view, Shaped, Sorted};
 ghost use Rattle.rules.specs.Table.{greatest};
-ghost use Rattle.scheduler.specs.Steps.{freshOf, choiceIn, askedOf, activateRefusal, terminateRefusal, chainRefusal, enteredIn, settleCall, settledIn, chainedIn, Short, responseIn, reported, talliedIn, refusedOf, acceptedOf};
+ghost use Rattle.scheduler.specs.Steps.{freshOf, choiceIn, askedOf, activateRefusal, terminateRefusal, chainRefusal, entryPhase, entryCall, enteredIn, settleCall, settledIn, chainedIn, Short, responseIn, reported, talliedIn, refusedOf, acceptedOf};
 ghost use Rattle.scheduler.specs.State.{Handed, HandedOut, stepOf, checkedOf};
 ghost use Rattle.scheduler.specs.Claims.{Claims};
 use jobs::JobList;
@@ -56,6 +56,7 @@ pub struct Change {
 
 // ---- the check
 
+// The check of a task table: a fresh state is handed out if it gives 0.
 pub fn check(given: TaskTable) -> Checked
     ensures { λ r. ⌜ (r ≡ checkedOf given) × HandedOut r ⌝ }
 {
@@ -86,6 +87,7 @@ fn fresh(table: TaskTable) -> State
 
 // ---- the calls
 
+// Tick: time moves; no kernel call.
 pub fn tick(s: State, at: Tick) -> Stepped
     requires { ⌜ Handed s ⌝ }
     ensures { λ r. ⌜ (r ≡ stepOf s (Wait at)) × Handed (r .state) ⌝ }
@@ -103,6 +105,7 @@ pub fn tick(s: State, at: Tick) -> Stepped
     accepted(s.table, at, late, monitor, change)
 }
 
+// Activate: a new job of the task goes into the list, and is released if it is first.
 pub fn activate(s: State, at: Tick, task: u8) -> Stepped
     requires { ⌜ Handed s ⌝ }
     ensures { λ r. ⌜ (r ≡ stepOf s (Activate at task)) × Handed (r .state) ⌝ }
@@ -118,6 +121,7 @@ pub fn activate(s: State, at: Tick, task: u8) -> Stepped
     accepted(s.table, at, late, monitor, change)
 }
 
+// Terminate: the running job leaves the list.
 pub fn terminate(s: State, at: Tick) -> Stepped
     requires { ⌜ Handed s ⌝ }
     ensures { λ r. ⌜ (r ≡ stepOf s (Terminate at)) × Handed (r .state) ⌝ }
@@ -133,6 +137,7 @@ pub fn terminate(s: State, at: Tick) -> Stepped
     accepted(s.table, at, late, monitor, change)
 }
 
+// Chain: the running job leaves, and the named task's job is inserted at the same tick.
 pub fn chain(s: State, at: Tick, task: u8) -> Stepped
     requires { ⌜ Handed s ⌝ }
     ensures { λ r. ⌜ (r ≡ stepOf s (Chain at task)) × Handed (r .state) ⌝ }
@@ -241,30 +246,42 @@ fn running(list: JobList) -> Choice
     Choice::Runs(job.task, due)
 }
 
+// A new job is released if it is first, and delayed otherwise.
+fn entry_phase(first: bool) -> Phase
+    ensures { λ r. ⌜ r ≡ entryPhase first ⌝ }
+{
+    if first {
+        return Phase::Released;
+    }
+    Phase::Delayed
+}
+
+// It is released by ActivateTask.
+fn entry_call(first: bool, task: u8) -> KernelCall
+    ensures { λ r. ⌜ r ≡ entryCall first task ⌝ }
+{
+    if first {
+        return KernelCall::ActivateTask(task);
+    }
+    KernelCall::NoCall
+}
+
 // Activate: insert. If the new job is first, release it by ActivateTask; otherwise no kernel call.
 fn entered(list: JobList, task: u8, due: Tick) -> Change
     requires { ⌜ Shaped list × (list .count < places) ⌝ }
     ensures { λ r. ⌜ r ≡ enteredIn task due (view list) ⌝ }
 {
-    let job = Job {
+    let new = Job {
         due,
         task,
         phase: Phase::Delayed,
     };
-    if jobs::is_first(list, job) {
-        let first = Job {
-            due,
-            task,
-            phase: Phase::Released,
-        };
-        return Change {
-            list: jobs::insert(list, first),
-            call: KernelCall::ActivateTask(task),
-        };
-    }
+    let first = jobs::is_first(list, new);
+    let phase = entry_phase(first);
+    let job = Job { due, task, phase };
     Change {
         list: jobs::insert(list, job),
-        call: KernelCall::NoCall,
+        call: entry_call(first, task),
     }
 }
 
