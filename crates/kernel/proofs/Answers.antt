@@ -16,7 +16,7 @@ use Rattle.scheduler.specs.declared.State.{State}
 use Rattle.scheduler.specs.declared.Stepped.{Stepped}
 use Rattle.scheduler.specs.State.{stateOf, told, stepOf}
 use Rattle.scheduler.proofs.Back.{step-is}
-use Rattle.scheduler.proofs.Facts.{handed-by}
+use Rattle.scheduler.proofs.Handed.{handed-by}
 use Rattle.kernel.specs.declared.Found.{Found}
 use Rattle.kernel.specs.declared.Found.the-variants.{At, Nothing}
 use Rattle.kernel.specs.Dispatch.{dispatchOf}

@@ -15,9 +15,9 @@ pub enum Found {
 }
 
 // The best job so far: where it stands, and its priority.
-pub struct Best {
-    pub found: Found,
-    pub top: u8,
+struct Best {
+    found: Found,
+    top: u8,
 }
 
 // Whether a released job takes over from the best so far: it is at least as high, and what stands further back in the list was released earlier.

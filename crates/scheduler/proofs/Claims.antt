@@ -25,7 +25,7 @@ use Rattle.scheduler.specs.declared.Stepped.{Stepped}
 use Rattle.scheduler.specs.State.{stateOf, checkedOf, told, stepOf}
 use Rattle.scheduler.specs.Claims.{ReadsBack, HandsOut, RefusedUnchanged, checked, stateAfter, answered, plainResults, plainChoices, RunsAsRuled, Claims}
 use Rattle.scheduler.proofs.Back.{table-back, head-back, step-is}
-use Rattle.scheduler.proofs.Facts.{handed-by}
+use Rattle.scheduler.proofs.Handed.{handed-by}
 
 reads-back : ReadsBack
 reads-back T h r = record { table = table-back T h; head = head-back T h r }

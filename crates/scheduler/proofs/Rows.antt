@@ -33,7 +33,7 @@ use Rattle.scheduler.proofs.Parts.{length-tasks, pending-is, drop-is}
 abbrev pub refusalIn : State → Call → ℕ
 refusalIn s (Wait t) = 8 if badTick (s .last) t else 0
 refusalIn s (Activate t n) = activateRefusal (s .last) (s .table .count) (s .list) (askedOf (s .table) t n)
-refusalIn s (Terminate t) = terminateRefusal (s .last) (s .list) t
+refusalIn s (Terminate t) = terminateRefusal (s .last) (s .list .count) t
 refusalIn s (Chain t n) = chainRefusal (s .last) (s .table .count) (s .list) (askedOf (s .table) t n)
 
 idle-is : (l : List Job) → eqb (length (map kept l)) 0 ≡ isIdle (firstTask l)

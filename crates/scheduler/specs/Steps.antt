@@ -45,8 +45,8 @@ activateRefusal last lines l new =
     else 9 if isBeyond (new .due)
     else 0
 
-unfoldable pub terminateRefusal : Tick → JobList → Tick → ℕ
-terminateRefusal last l at = 8 if badTick last at else 2 if eqb (l .count) 0 else 0
+unfoldable pub terminateRefusal : Tick → ℕ → Tick → ℕ
+terminateRefusal last pending at = 8 if badTick last at else 2 if eqb pending 0 else 0
 
 unfoldable pub chainRefusal : Tick → ℕ → JobList → Activation → ℕ
 chainRefusal last lines l new =

@@ -41,17 +41,17 @@ pub struct Stepped {
 }
 
 // An activation that is asked for: its tick, its task, the limit of its line, and when it would be due.
-pub struct Activation {
-    pub at: Tick,
-    pub task: u8,
-    pub limit: u8,
-    pub due: Tick,
+struct Activation {
+    at: Tick,
+    task: u8,
+    limit: u8,
+    due: Tick,
 }
 
 // The list after a call, and the kernel call made.
-pub struct Change {
-    pub list: JobList,
-    pub call: KernelCall,
+struct Change {
+    list: JobList,
+    call: KernelCall,
 }
 
 // ---- the check
@@ -126,7 +126,7 @@ pub fn terminate(s: State, at: Tick) -> Stepped
     requires { ⌜ Handed s ⌝ }
     ensures { λ r. ⌜ (r ≡ stepOf s (Terminate at)) × Handed (r .state) ⌝ }
 {
-    let refusal = terminate_refusal(s.last, s.list, at);
+    let refusal = terminate_refusal(s.last, s.list.count, at);
     if refusal != 0 {
         return refused(s, refusal);
     }
@@ -156,6 +156,7 @@ pub fn chain(s: State, at: Tick, task: u8) -> Stepped
 
 // ---- the refusals, in the order of the rows
 
+// Rows 8, 3, 4, 10 and 9.
 fn activate_refusal(last: Tick, lines: usize, list: JobList, new: Activation) -> u8
     requires { ⌜ Shaped list ⌝ }
     ensures { λ r. ⌜ r ≡ activateRefusal last lines list new ⌝ }
@@ -180,19 +181,20 @@ fn activate_refusal(last: Tick, lines: usize, list: JobList, new: Activation) ->
     0
 }
 
-fn terminate_refusal(last: Tick, list: JobList, at: Tick) -> u8
-    ensures { λ r. ⌜ r ≡ terminateRefusal last list at ⌝ }
+// Rows 8 and 2.
+fn terminate_refusal(last: Tick, pending: usize, at: Tick) -> u8
+    ensures { λ r. ⌜ r ≡ terminateRefusal last pending at ⌝ }
 {
     if ticks::bad_tick(last, at) {
         return 8;
     }
-    if list.count == 0 {
+    if pending == 0 {
         return 2;
     }
     0
 }
 
-// The job that ends, the first, is not counted.
+// Rows 8, 2, 3, 4 and 9. The ending job, the first, isn't counted.
 fn chain_refusal(last: Tick, lines: usize, list: JobList, new: Activation) -> u8
     requires { ⌜ Shaped list ⌝ }
     ensures { λ r. ⌜ r ≡ chainRefusal last lines list new ⌝ }

@@ -1,9 +1,9 @@
+-- `jobs::empty` meets its contract. Assumes nothing.
 use mathlib.Core.Path.{refl}
 use Rattle.jobs.specs.Listed.{pack}
 use Rattle.jobs.proofs.empty.Statement.{statement}
 use Rattle.jobs.proofs.empty.Tie as tie
 
--- src/lib.rt:31:1
 returns : tie.Need-returns
 unfolding pack
 returns c = refl

@@ -1,13 +1,12 @@
+-- `jobs::first` meets its contract. Assumes nothing.
 use Rattle.jobs.proofs.Scans.{first-law}
 use borrow.Author.Needs.{needs}
 use Rattle.jobs.proofs.first.Statement.{statement}
 use Rattle.jobs.proofs.first.Tie as tie
 
--- src/lib.rt:163:5
 element-copy-out-result : tie.Need-element-copy-out-result
 element-copy-out-result c = search needs
 
--- src/lib.rt:159:1
 returns : tie.Need-returns
 returns c = first-law (c .before .args .t1) (c .before .pre)
 

@@ -1,8 +1,8 @@
+-- `jobs::goes_before` meets its contract. Assumes nothing.
 use mathlib.Core.Path.{refl}
 use Rattle.jobs.proofs.goes_before.Statement.{statement}
 use Rattle.jobs.proofs.goes_before.Tie as tie
 
--- src/lib.rt:80:1
 returns : tie.Need-returns
 returns c = refl
 

@@ -1,3 +1,4 @@
+-- `jobs::insert` meets its contract. Assumes nothing.
 use native.Mathlib.Omega.{arith}
 use Rattle.jobs.specs.Listed.{view}
 use Rattle.jobs.proofs.Laid.{view-length}
@@ -7,21 +8,17 @@ use borrow.Author.Needs.{needs}
 use Rattle.jobs.proofs.insert.Statement.{statement}
 use Rattle.jobs.proofs.insert.Tie as tie
 
--- src/lib.rt:115:9
 place-requires : tie.Need-place-requires
 place-requires c κs = search needs
 
--- src/lib.rt:117:17
 add-count : tie.Need-add-count
 add-count c = search needs
 
--- src/lib.rt:119:15
 opened-requires : tie.Need-opened-requires
 opened-requires c κs =
     let b = c .before .before .before in
     (omega (arith, c .before .before .place .ensures, place-le (b .args .job) (view (b .args .list)), view-length (b .args .list) (b .pre .0)), omega (arith, b .pre .1))
 
--- src/lib.rt:111:1
 returns : tie.Need-returns
 returns c =
     let b = c .before .before .before .before in

@@ -1,3 +1,4 @@
+-- `jobs::is_first` meets its contract. Assumes nothing.
 use mathlib.Core.Path.{_∙_}
 use borrow.Author.Tests.{eq-eqb, ne-eqb}
 use Rattle.jobs.proofs.Scans.{is-first-law}
@@ -5,21 +6,17 @@ use borrow.Author.Needs.{needs}
 use Rattle.jobs.proofs.is_first.Statement.{statement}
 use Rattle.jobs.proofs.is_first.Tie as tie
 
--- src/lib.rt:104:9
 returns : tie.Need-returns
 returns c =
     let b = c .before in
     rw (eq-eqb (b .args .t1 .count) 0 (c .if1 .taken)) at (is-first-law (b .args .t1) (b .args .job) (b .pre))
 
--- src/lib.rt:106:17
 element-copy-out-other : tie.Need-element-copy-out-other
 element-copy-out-other c = search needs
 
--- src/lib.rt:107:5
 goes-before-requires : tie.Need-goes-before-requires
 goes-before-requires c κs = search needs
 
--- src/lib.rt:99:1
 returns-2 : tie.Need-returns-2
 returns-2 c =
     let b = c .before .before .before in

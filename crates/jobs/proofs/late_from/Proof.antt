@@ -1,3 +1,4 @@
+-- `jobs::late_from` meets its contract. Assumes nothing.
 use borrow.Author.Needs.{needs}
 use mathlib.Core.Path.{_≡_, refl, sym, ap, _∙_}
 use Prim.Native.Nat.{_+_, _-_, _≤_}
@@ -15,42 +16,33 @@ Inv-loop last at list n late₀ i₀ late i = (i ≤ n) × (late .count ≤ i) �
 abbrev μ-loop : tie.MeasureT-loop
 μ-loop last at list n late₀ i₀ late i = n - i
 
--- src/lib.rt:220:9
 none-late-requires : tie.Need-none-late-requires Inv-loop μ-loop
 none-late-requires c κs = search needs
 
--- src/lib.rt:222:5
 loop-holds : tie.Need-loop-holds Inv-loop μ-loop
 loop-holds c = (omega arith, omega (arith, none-count (c .none-late .result) (c .none-late .ensures)), refl)
 
--- src/lib.rt:223:19
 mul-job : tie.Need-mul-job Inv-loop μ-loop
 mul-job c = search needs
 
--- src/lib.rt:223:19
 element-copy-out-job : tie.Need-element-copy-out-job Inv-loop μ-loop
 element-copy-out-job c = search needs
 
--- src/lib.rt:225:12
 is-past-requires : tie.Need-is-past-requires Inv-loop μ-loop
 is-past-requires c κs = search needs
 
--- src/lib.rt:226:13
 late-step-requires : tie.Need-late-step-requires Inv-loop μ-loop
 late-step-requires c κs =
     let b = c .before .before .before .before .before .before .before in
     let l = c .before .before .before .before .before .loop in
     omega (arith, b .pre .0 .small)
 
--- src/lib.rt:227:13
 add-i : tie.Need-add-i Inv-loop μ-loop
 add-i c = search needs
 
--- src/lib.rt:222:5
 loop-less : tie.Need-loop-less Inv-loop μ-loop
 loop-less c = search needs
 
--- src/lib.rt:222:5
 loop-again : tie.Need-loop-again Inv-loop μ-loop
 loop-again c =
     let b = c .before .before .before .before .before .before .before .before in
@@ -62,7 +54,6 @@ loop-again c =
     let k : c .late-step .result .count ≤ l .i + 1 = rw (c .late-step .ensures) (omega (arith, step-count (a .last) (l .late) job)) in
     (omega arith, k, rw (c .late-step .ensures) (sym turn ∙ l .inv .2))
 
--- src/lib.rt:229:13
 returns : tie.Need-returns Inv-loop μ-loop
 returns c =
     let n = c .before .before .before .before .before .before in
@@ -73,7 +64,6 @@ returns c =
     let stop = ap (lateScan (a .last) (a .at) (l .late)) v ∙ scan-stop (a .last) (a .at) (l .late) _ _ (sym (c .before .is-past .ensures) ∙ c .if1 .left) in
     sym stop ∙ l .inv .2 ∙ scan-law (a .last) (a .at) _ (a .t1) (n .none-late .ensures) (b .pre .0) (b .pre .1)
 
--- src/lib.rt:215:1
 returns-2 : tie.Need-returns-2 Inv-loop μ-loop
 returns-2 c =
     let n = c .before .before in

@@ -1,32 +1,27 @@
+-- `jobs::late_step` meets its contract. Assumes nothing.
 use mathlib.Core.Path.{sym, _∙_}
 use Rattle.jobs.proofs.Lates.{step-before, step-now}
 use borrow.Author.Needs.{needs}
 use Rattle.jobs.proofs.late_step.Statement.{statement}
 use Rattle.jobs.proofs.late_step.Tie as tie
 
--- src/lib.rt:192:8
 is-past-requires : tie.Need-is-past-requires
 is-past-requires c κs = search needs
 
--- src/lib.rt:193:9
 returns : tie.Need-returns
 returns c =
     let a = c .before .before .before .args in
     sym (step-before (a .last) (a .late) (a .job) (sym (c .before .is-past .ensures) ∙ c .if1 .taken))
 
--- src/lib.rt:195:13
 cast-n : tie.Need-cast-n
 cast-n c = search needs
 
--- src/lib.rt:197:5
 array-write-tasks : tie.Need-array-write-tasks
 array-write-tasks c = search needs
 
--- src/lib.rt:199:16
 add-t10 : tie.Need-add-t10
 add-t10 c = search needs
 
--- src/lib.rt:187:1
 returns-2 : tie.Need-returns-2
 returns-2 c =
     let a = c .before .before .before .before .before .before .args in

@@ -1,3 +1,4 @@
+-- `jobs::newly_late` meets its contract. Assumes nothing.
 use mathlib.Core.Path.{sym, _∙_}
 use native.Mathlib.Omega.{arith}
 use Rattle.jobs.proofs.Lates.{late-empty, late-stop}
@@ -5,37 +6,29 @@ use borrow.Author.Needs.{needs}
 use Rattle.jobs.proofs.newly_late.Statement.{statement}
 use Rattle.jobs.proofs.newly_late.Tie as tie
 
--- src/lib.rt:237:9
 none-late-requires : tie.Need-none-late-requires
 none-late-requires c κs = search needs
 
--- src/lib.rt:237:9
 returns : tie.Need-returns
 returns c =
     let a = c .before .before .args in
     c .none-late .ensures ∙ sym (late-empty (a .last) (a .at) (a .t1) (c .before .if1 .taken))
 
--- src/lib.rt:239:15
 element-copy-out-job : tie.Need-element-copy-out-job
 element-copy-out-job c = search needs
 
--- src/lib.rt:241:8
 is-past-requires : tie.Need-is-past-requires
 is-past-requires c κs = search needs
 
--- src/lib.rt:242:9
 late-from-requires : tie.Need-late-from-requires
 late-from-requires c κs = search needs
 
--- src/lib.rt:242:9
 returns-2 : tie.Need-returns-2
 returns-2 c = search needs
 
--- src/lib.rt:244:5
 none-late-requires-2 : tie.Need-none-late-requires-2
 none-late-requires-2 c κs = search needs
 
--- src/lib.rt:232:1
 returns-3 : tie.Need-returns-3
 returns-3 c =
     let b = c .before .before .before .before .before .before in

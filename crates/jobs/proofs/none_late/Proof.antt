@@ -1,9 +1,9 @@
+-- `jobs::none_late` meets its contract. Assumes nothing.
 use mathlib.Core.Path.{refl}
 use Rattle.jobs.specs.Listed.{lateIn}
 use Rattle.jobs.proofs.none_late.Statement.{statement}
 use Rattle.jobs.proofs.none_late.Tie as tie
 
--- src/lib.rt:205:1
 returns : tie.Need-returns
 unfolding lateIn
 returns c = refl

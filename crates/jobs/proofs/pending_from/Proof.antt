@@ -1,3 +1,4 @@
+-- `jobs::pending_from` meets its contract. Assumes nothing.
 use borrow.Author.Needs.{needs}
 use mathlib.Core.Logic.{⊎-elim}
 use mathlib.Core.Path.{_≡_, ap, _∙_}
@@ -16,31 +17,24 @@ Inv-loop start task list n found₀ i₀ found i = (i ≤ n) × (found ≤ i) ×
 abbrev μ-loop : tie.MeasureT-loop
 μ-loop start task list n found₀ i₀ found i = n - i
 
--- src/lib.rt:148:5
 loop-holds : tie.Need-loop-holds Inv-loop μ-loop
 loop-holds c = search needs
 
--- src/lib.rt:149:19
 mul-job : tie.Need-mul-job Inv-loop μ-loop
 mul-job c = search needs
 
--- src/lib.rt:149:19
 element-copy-out-job : tie.Need-element-copy-out-job Inv-loop μ-loop
 element-copy-out-job c = search needs
 
--- src/lib.rt:151:13
 add-found : tie.Need-add-found Inv-loop μ-loop
 add-found c = search needs
 
--- src/lib.rt:153:9
 add-i : tie.Need-add-i Inv-loop μ-loop
 add-i c = search needs
 
--- src/lib.rt:148:5
 loop-less : tie.Need-loop-less Inv-loop μ-loop
 loop-less c = search needs
 
--- src/lib.rt:148:5
 loop-again : tie.Need-loop-again Inv-loop μ-loop
 loop-again c =
     let l = c .before .before .before .before .loop in
@@ -52,7 +46,6 @@ loop-again c =
     (λ w. (omega arith, omega arith, omega (arith, e, pending-next (a .task) (getD (a .t1 .jobs) (l .i) blankJob) (drop (l .i + 1) (view (a .t1))) (w .0 .left))))
     (c .if1 .came)
 
--- src/lib.rt:141:1
 returns : tie.Need-returns Inv-loop μ-loop
 returns c =
     let l = c .before .loop in

@@ -1,3 +1,4 @@
+-- `jobs::place` meets its contract. Assumes nothing.
 use borrow.Author.Needs.{needs}
 use mathlib.Core.Path.{_≡_, sym, ap, _∙_}
 use Prim.Native.Nat.{_+_, _-_, _≤_}
@@ -15,23 +16,18 @@ Inv-loop job list n i₀ i = (i ≤ n) × (i + placeOf job (drop i (view list)) 
 abbrev μ-loop : tie.MeasureT-loop
 μ-loop job list n i₀ i = n - i
 
--- src/lib.rt:88:5
 loop-holds : tie.Need-loop-holds Inv-loop μ-loop
 loop-holds c = search needs
 
--- src/lib.rt:89:21
 mul-other : tie.Need-mul-other Inv-loop μ-loop
 mul-other c = search needs
 
--- src/lib.rt:89:21
 element-copy-out-other : tie.Need-element-copy-out-other Inv-loop μ-loop
 element-copy-out-other c = search needs
 
--- src/lib.rt:90:12
 goes-before-requires : tie.Need-goes-before-requires Inv-loop μ-loop
 goes-before-requires c κs = search needs
 
--- src/lib.rt:91:13
 returns : tie.Need-returns Inv-loop μ-loop
 returns c =
     let b = c .before .before .before .before .before in
@@ -39,15 +35,12 @@ returns c =
     let v = view-step (b .args .t1) (l .i) (b .pre) (omega arith) in
     omega (arith, ap (placeOf (b .args .job)) v ∙ place-here (b .args .job) _ _ (sym (c .before .goes-before .ensures) ∙ c .if1 .taken))
 
--- src/lib.rt:93:9
 add-i : tie.Need-add-i Inv-loop μ-loop
 add-i c = search needs
 
--- src/lib.rt:88:5
 loop-less : tie.Need-loop-less Inv-loop μ-loop
 loop-less c = search needs
 
--- src/lib.rt:88:5
 loop-again : tie.Need-loop-again Inv-loop μ-loop
 loop-again c =
     let b = c .before .before .before .before .before in
@@ -55,7 +48,6 @@ loop-again c =
     let v = view-step (b .args .t1) (l .i) (b .pre) (omega arith) in
     (omega arith, omega (arith, ap (placeOf (b .args .job)) v ∙ place-next (b .args .job) _ _ (sym (c .before .goes-before .ensures) ∙ c .if1 .left)))
 
--- src/lib.rt:82:1
 returns-2 : tie.Need-returns-2 Inv-loop μ-loop
 returns-2 c =
     let b = c .before .before in

@@ -1,3 +1,4 @@
+-- `jobs::release_first` meets its contract. Assumes nothing.
 use mathlib.Core.Logic.{⊎-elim}
 use mathlib.Core.Path.{_≡_, sym, ap, _∙_}
 use mathlib.Core.Bool.{cond}
@@ -9,15 +10,12 @@ use borrow.Author.Needs.{needs}
 use Rattle.jobs.proofs.release_first.Statement.{statement}
 use Rattle.jobs.proofs.release_first.Tie as tie
 
--- src/lib.rt:171:17
 array-copy-out-first : tie.Need-array-copy-out-first
 array-copy-out-first c = search needs
 
--- src/lib.rt:174:5
 array-set-from-jobs : tie.Need-array-set-from-jobs
 array-set-from-jobs c = search needs
 
--- src/lib.rt:165:1
 returns : tie.Need-returns
 returns c =
     let b = c .before .before .before .before in

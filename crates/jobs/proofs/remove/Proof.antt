@@ -1,17 +1,15 @@
+-- `jobs::remove` meets its contract. Assumes nothing.
 use Rattle.jobs.proofs.Shifts.{remove-law}
 use borrow.Author.Needs.{needs}
 use Rattle.jobs.proofs.remove.Statement.{statement}
 use Rattle.jobs.proofs.remove.Tie as tie
 
--- src/lib.rt:133:15
 closed-requires : tie.Need-closed-requires
 closed-requires c κs = search needs
 
--- src/lib.rt:134:16
 sub-t6 : tie.Need-sub-t6
 sub-t6 c = search needs
 
--- src/lib.rt:126:1
 returns : tie.Need-returns
 returns c =
     let b = c .before .before in

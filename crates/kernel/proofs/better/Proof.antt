@@ -1,3 +1,4 @@
+-- `kernel::better` meets its contract. Assumes nothing.
 use borrow.Author.Needs.{needs}
 use mathlib.Core.Path.{sym, ap, _∙_}
 use Rattle.rules.specs.declared.Line.{Line}
@@ -5,29 +6,23 @@ use Rattle.kernel.proofs.Laws.{better-delayed, better-taken, better-lef
 use Rattle.kernel.proofs.better.Statement.{statement}
 use Rattle.kernel.proofs.better.Tie as tie
 
--- src/lib.rt:36:27
 enum-told : tie.Need-enum-told
 enum-told c = search needs
 
--- src/lib.rt:38:17
 enum-told-2 : tie.Need-enum-told-2
 enum-told-2 c = search needs
 
--- src/lib.rt:38:17
 line-of-requires : tie.Need-line-of-requires
 line-of-requires c κs = search needs
 
--- src/lib.rt:39:16
 takes-over-requires : tie.Need-takes-over-requires
 takes-over-requires c κs = search needs
 
--- src/lib.rt:31:1
 returns : tie.Need-returns
 returns c =
     let a = c .before .before .args in
     better-delayed (a .table .lines) (a .at) (a .best) (a .job) (c .enum-told .given .1)
 
--- src/lib.rt:31:1
 returns-2 : tie.Need-returns-2
 returns-2 c =
     let b = c .before .before .before in
@@ -35,7 +30,6 @@ returns-2 c =
     let p = ap (λ (x : Line). x .priority) (c .before .before .line-of .ensures) in
     better-taken (a .table .lines) (a .at) (a .best) (a .job) _ (b .enum-told2 .given .1) p (sym (c .before .takes-over .ensures) ∙ c .if1 .taken)
 
--- src/lib.rt:31:1
 returns-3 : tie.Need-returns-3
 returns-3 c =
     let b = c .before .before .before in

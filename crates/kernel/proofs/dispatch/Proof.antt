@@ -1,3 +1,4 @@
+-- `kernel::dispatch` meets its contract. Assumes nothing.
 use borrow.Author.Needs.{needs}
 use mathlib.Core.Path.{_≡_, refl, sym, ap, _∙_}
 use Prim.Native.Nat.{_-_, _≤_}
@@ -16,38 +17,30 @@ Inv-loop table list n best₀ i₀ best i = (i ≤ n) × (bestFrom (table .lines
 abbrev μ-loop : tie.MeasureT-loop
 μ-loop table list n best₀ i₀ best i = n - i
 
--- src/lib.rt:62:5
 loop-holds : tie.Need-loop-holds Inv-loop μ-loop
 loop-holds c = (search needs, refl)
 
--- src/lib.rt:63:19
 mul-job : tie.Need-mul-job Inv-loop μ-loop
 mul-job c = search needs
 
--- src/lib.rt:63:19
 element-copy-out-job : tie.Need-element-copy-out-job Inv-loop μ-loop
 element-copy-out-job c = search needs
 
--- src/lib.rt:64:9
 better-requires : tie.Need-better-requires Inv-loop μ-loop
 better-requires c κs = search needs
 
--- src/lib.rt:65:9
 add-i : tie.Need-add-i Inv-loop μ-loop
 add-i c = search needs
 
--- src/lib.rt:62:5
 loop-less : tie.Need-loop-less Inv-loop μ-loop
 loop-less c = search needs
 
--- src/lib.rt:62:5
 loop-again : tie.Need-loop-again Inv-loop μ-loop
 loop-again c =
     let b = c .before .before .before .before in
     let l = c .before .before .before .loop in
     (omega arith, rw (c .better .ensures) (sym (best-turn (b .args .table .lines) (l .i) (l .best) (b .args .t1) (b .pre) (omega arith)) ∙ l .inv .1))
 
--- src/lib.rt:52:1
 returns : tie.Need-returns Inv-loop μ-loop
 unfolding dispatchOf
 returns c =

@@ -1,3 +1,4 @@
+-- `monitor::up` meets its contract. Assumes nothing.
 use native.Mathlib.Omega.{arith}
 use native.Mathlib.Numerals.{add-one}
 use borrow.Author.Tests.{lt-ltb, le-ltb}
@@ -6,15 +7,12 @@ use Rattle.rules.specs.Counts.{most}
 use Rattle.monitor.proofs.up.Statement.{statement}
 use Rattle.monitor.proofs.up.Tie as tie
 
--- src/lib.rt:37:16
 add-result : tie.Need-add-result
 add-result c = search needs
 
--- src/lib.rt:37:9
 returns : tie.Need-returns
 returns c = rw (add-one, lt-ltb (c .before .args .count) most (omega arith))
 
--- src/lib.rt:33:1
 returns-2 : tie.Need-returns-2
 returns-2 c = rw (le-ltb (c .before .args .count) most (omega arith))
 

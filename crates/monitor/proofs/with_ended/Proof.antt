@@ -1,3 +1,4 @@
+-- `monitor::with_ended` meets its contract. Assumes nothing.
 use Prim.Native.Nat.{_≤_}
 use mathlib.Core.Path.{_≡_, ap}
 use lib.ListN.{length, length-map}
@@ -9,31 +10,24 @@ use Rattle.monitor.proofs.Laws.{on-none}
 use Rattle.monitor.proofs.with_ended.Statement.{statement}
 use Rattle.monitor.proofs.with_ended.Tie as tie
 
--- src/lib.rt:105:21
 mul-tally : tie.Need-mul-tally
 mul-tally c = search needs
 
--- src/lib.rt:105:21
 array-copy-out-tally : tie.Need-array-copy-out-tally
 array-copy-out-tally c = search needs
 
--- src/lib.rt:106:22
 ended-more-requires : tie.Need-ended-more-requires
 ended-more-requires c κs = search needs
 
--- src/lib.rt:106:9
 mul-tallies : tie.Need-mul-tallies
 mul-tallies c = search needs
 
--- src/lib.rt:106:9
 array-set-from-tallies : tie.Need-array-set-from-tallies
 array-set-from-tallies c = search needs
 
--- src/lib.rt:99:1
 returns : tie.Need-returns
 returns c = rw (c .ended-more .ensures)
 
--- src/lib.rt:99:1
 returns-2 : tie.Need-returns-2
 returns-2 c =
     let b = c .before .before in

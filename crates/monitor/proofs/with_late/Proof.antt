@@ -1,3 +1,4 @@
+-- `monitor::with_late` meets its contract. Assumes nothing.
 use Prim.Native.Nat.{_-_}
 use mathlib.Core.Path.{_≡_, refl, sym, ap, _∙_}
 use mathlib.Core.Logic.{⊎-elim}
@@ -16,17 +17,14 @@ Inv-loop late n tallies₀ i₀ tallies i = (length tallies ≡ 32) × (withLate
 abbrev μ-loop : tie.MeasureT-loop
 μ-loop late n tallies₀ i₀ tallies i = n - i
 
--- src/lib.rt:78:13
 cast-n : tie.Need-cast-n Inv-loop μ-loop
 cast-n c = search needs
 
--- src/lib.rt:84:5
 loop-holds : tie.Need-loop-holds Inv-loop μ-loop
 loop-holds c =
     let b = c .before in
     (simp length-map at (b .good .0 .1 .1 .0 .1 .0 .1), refl)
 
--- src/lib.rt:86:13
 returns : tie.Need-returns Inv-loop μ-loop
 returns c =
     let b = c .before .before .before .before in
@@ -34,39 +32,30 @@ returns c =
     let n : length (b .args .t2 .tasks) ≡ 32 = search needs in
     ap counts (sym (late-end (b .args .t2) (l .tallies) (l .i) (omega arith)) ∙ l .inv .1)
 
--- src/lib.rt:88:17
 element-copy-out-t : tie.Need-element-copy-out-t Inv-loop μ-loop
 element-copy-out-t c = search needs
 
--- src/lib.rt:88:17
 cast-t : tie.Need-cast-t Inv-loop μ-loop
 cast-t c = search needs
 
--- src/lib.rt:90:25
 mul-tally : tie.Need-mul-tally Inv-loop μ-loop
 mul-tally c = search needs
 
--- src/lib.rt:90:25
 array-copy-out-tally : tie.Need-array-copy-out-tally Inv-loop μ-loop
 array-copy-out-tally c = search needs
 
--- src/lib.rt:91:26
 late-more-requires : tie.Need-late-more-requires Inv-loop μ-loop
 late-more-requires c κs = search needs
 
--- src/lib.rt:91:13
 mul-tallies : tie.Need-mul-tallies Inv-loop μ-loop
 mul-tallies c = search needs
 
--- src/lib.rt:91:13
 array-set-from-tallies : tie.Need-array-set-from-tallies Inv-loop μ-loop
 array-set-from-tallies c = search needs
 
--- src/lib.rt:93:9
 add-i : tie.Need-add-i Inv-loop μ-loop
 add-i c = search needs
 
--- src/lib.rt:84:5
 loop-less : tie.Need-loop-less Inv-loop μ-loop
 loop-less c = search needs
 
@@ -86,7 +75,6 @@ counted c =
     (λ w. w .1 ∙ on-none _ lateMore (l .tallies) (omega arith))
     (c .if2 .came)
 
--- src/lib.rt:84:5
 loop-again : tie.Need-loop-again Inv-loop μ-loop
 loop-again c =
     let b = c .before .before .before .before .before .before in
@@ -94,7 +82,6 @@ loop-again c =
     let n : length (b .args .t2 .tasks) ≡ 32 = search needs in
     (ap length (counted c) ∙ simp length-set (l .inv .0), rw (counted c) (late-turn (b .args .t2) (l .tallies) (l .i) (omega arith) (omega arith) ∙ l .inv .1))
 
--- src/lib.rt:75:1
 returns-2 : tie.Need-returns-2 Inv-loop μ-loop
 returns-2 c =
     let b = c .before .before .before in

@@ -1,13 +1,12 @@
+-- `scheduler::accepted` meets its contract. Assumes nothing.
 use Rattle.scheduler.specs.Steps.{acceptedOf}
 use borrow.Author.Needs.{needs}
 use Rattle.scheduler.proofs.accepted.Statement.{statement}
 use Rattle.scheduler.proofs.accepted.Tie as tie
 
--- src/lib.rt:357:18
 running-requires : tie.Need-running-requires
 running-requires c κs = search needs
 
--- src/lib.rt:349:1
 returns : tie.Need-returns
 unfolding acceptedOf
 returns c = rw (c .running .ensures)

@@ -1,3 +1,4 @@
+-- `scheduler::activate` meets its contract. Assumes nothing.
 use mathlib.Core.Path.{_≡_, sym, ap, _∙_, subst⁻¹}
 use native.Mathlib.Omega.{arith}
 use Rattle.rules.specs.declared.Call.the-variants.{Activate}
@@ -8,7 +9,8 @@ use Rattle.scheduler.specs.declared.Change.{Change}
 use Rattle.scheduler.specs.Steps.{activateRefusal, enteredIn}
 use Rattle.scheduler.proofs.Rows.{refusalIn}
 use Rattle.scheduler.proofs.Whole.{changeIn, movedOf}
-use Rattle.scheduler.proofs.Facts.{handed-shaped, handed-sorted, handed-refused, handed-accepted, handed-room, hand-on, entered-shaped, moved-by}
+use Rattle.scheduler.proofs.Handed.{handed-shaped, handed-sorted, handed-refused, handed-accepted, handed-room, hand-on}
+use Rattle.scheduler.proofs.Cases.{entered-shaped, moved-by}
 use borrow.Author.Needs.{needs}
 use Rattle.scheduler.proofs.activate.Statement.{statement}
 use Rattle.scheduler.proofs.activate.Tie as tie
@@ -29,19 +31,15 @@ change c =
     let a = c .before .before .before .before .before .before .args in
     c .entered .ensures ∙ ap (λ (x : Activation). enteredIn (a .task) (x .due) (view (a .s .list))) (c .before .before .before .before .before .asked .ensures)
 
--- src/lib.rt:110:9
 asked-requires : tie.Need-asked-requires
 asked-requires c κs = search needs
 
--- src/lib.rt:111:9
 activate-refusal-requires : tie.Need-activate-refusal-requires
 activate-refusal-requires c κs = handed-shaped (c .before .args .s) (c .before .pre)
 
--- src/lib.rt:113:9
 refused-requires : tie.Need-refused-requires
 refused-requires c κs = handed-shaped (c .before .before .before .args .s) (c .before .before .before .pre)
 
--- src/lib.rt:113:9
 returns : tie.Need-returns
 returns c =
     let b = c .before .before .before .before in
@@ -49,23 +47,19 @@ returns c =
     hand-on (a .s) (b .pre) (Activate (a .at) (a .task)) _
     (c .refused .ensures ∙ handed-refused (a .s) (b .pre) (Activate (a .at) (a .task)) _ (number (c .before .before)) (c .before .if1 .taken))
 
--- src/lib.rt:115:9
 newly-late-requires : tie.Need-newly-late-requires
 newly-late-requires c κs =
     let b = c .before .before .before in
     (handed-shaped (b .args .s) (b .pre), handed-sorted (b .args .s) (b .pre))
 
--- src/lib.rt:116:9
 with-late-requires : tie.Need-with-late-requires
 with-late-requires c κs = search needs
 
--- src/lib.rt:117:9
 entered-requires : tie.Need-entered-requires
 entered-requires c κs =
     let b = c .before .before .before .before .before in
     (handed-shaped (b .args .s) (b .pre), handed-room (b .args .s) (b .pre) (b .args .at) (b .args .task) (none (c .before .before)))
 
--- src/lib.rt:118:5
 accepted-requires : tie.Need-accepted-requires
 accepted-requires c κs =
     let b = c .before .before .before .before .before .before in
@@ -74,7 +68,6 @@ accepted-requires c κs =
     let r = handed-room (a .s) (b .pre) (a .at) (a .task) (none (c .before .before .before)) in
     subst⁻¹ (λ (z : Change). Shaped (z .list)) (change c) (entered-shaped (a .task) _ (view (a .s .list)) (omega (arith, view-length (a .s .list) h, r)))
 
--- src/lib.rt:106:1
 returns-2 : tie.Need-returns-2
 returns-2 c =
     let b = c .before .before .before .before .before .before .before in

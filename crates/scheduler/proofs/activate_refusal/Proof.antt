@@ -1,3 +1,4 @@
+-- `scheduler::activate_refusal` meets its contract. Assumes nothing.
 use mathlib.Core.Path.{_≡_, refl, sym, _∙_}
 use mathlib.Core.Bool.{false}
 use lib.Dec.{leb}
@@ -6,7 +7,7 @@ use Rattle.jobs.specs.Listed.{view, pendingOf}
 use borrow.Author.Tests.{le-leb, lt-leb}
 use Rattle.rules.specs.Calls.{badTick}
 use Rattle.scheduler.specs.Steps.{activateRefusal}
-use Rattle.scheduler.proofs.Facts.{row-here, row-next}
+use Rattle.scheduler.proofs.Cases.{row-here, row-next}
 use borrow.Author.Needs.{needs}
 use Rattle.scheduler.proofs.activate_refusal.Statement.{statement}
 use Rattle.scheduler.proofs.activate_refusal.Tie as tie
@@ -24,33 +25,26 @@ not-4 c = lt-leb _ _ (rw (c .before .pending-from .ensures) at (c .if3 .left))
 not-10 : (c : tie.Else4) → leb 32 (c .before .before .before .before .before .before .before .before .before .before .args .list .count) ≡ false
 not-10 c = lt-leb _ _ (c .if4 .left)
 
--- src/lib.rt:159:8
 bad-tick-requires : tie.Need-bad-tick-requires
 bad-tick-requires c κs = search needs
 
--- src/lib.rt:160:9
 returns : tie.Need-returns
 unfolding activateRefusal
 returns c = row-here 8 _ _ (sym (c .before .bad-tick .ensures) ∙ c .if1 .taken)
 
--- src/lib.rt:162:17
 cast-if2 : tie.Need-cast-if2
 cast-if2 c = search needs
 
--- src/lib.rt:163:9
 returns-2 : tie.Need-returns-2
 unfolding activateRefusal
 returns-2 c = row-next 8 _ _ 3 (not-8 (c .before .before)) (row-here 3 _ _ (le-leb _ _ (c .if2 .taken)))
 
--- src/lib.rt:165:8
 cast-if3 : tie.Need-cast-if3
 cast-if3 c = search needs
 
--- src/lib.rt:165:30
 pending-from-requires : tie.Need-pending-from-requires
 pending-from-requires c κs = search needs
 
--- src/lib.rt:166:9
 returns-3 : tie.Need-returns-3
 unfolding activateRefusal
 returns-3 c =
@@ -58,7 +52,6 @@ returns-3 c =
     (row-next 3 _ _ 4 (not-3 (c .before .before .before))
     (row-here 4 _ _ (le-leb _ _ (rw (c .before .pending-from .ensures) at (c .if3 .taken)))))
 
--- src/lib.rt:169:9
 returns-4 : tie.Need-returns-4
 unfolding activateRefusal
 returns-4 c =
@@ -67,11 +60,9 @@ returns-4 c =
     (row-next 4 _ _ 10 (not-4 (c .before .before))
     (row-here 10 _ _ (le-leb _ _ (c .if4 .taken)))))
 
--- src/lib.rt:172:8
 is-beyond-requires : tie.Need-is-beyond-requires
 is-beyond-requires c κs = search needs
 
--- src/lib.rt:173:9
 returns-5 : tie.Need-returns-5
 unfolding activateRefusal
 returns-5 c =
@@ -81,7 +72,6 @@ returns-5 c =
     (row-next 10 _ _ 9 (not-10 (c .before .before .before))
     (row-here 9 _ _ (sym (c .before .is-beyond .ensures) ∙ c .if5 .taken)))))
 
--- src/lib.rt:154:1
 returns-6 : tie.Need-returns-6
 unfolding activateRefusal
 returns-6 c =

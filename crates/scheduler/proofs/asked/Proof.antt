@@ -1,17 +1,15 @@
+-- `scheduler::asked` meets its contract. Assumes nothing.
 use Rattle.scheduler.specs.Steps.{askedOf}
 use borrow.Author.Needs.{needs}
 use Rattle.scheduler.proofs.asked.Statement.{statement}
 use Rattle.scheduler.proofs.asked.Tie as tie
 
--- src/lib.rt:221:9
 line-of-requires : tie.Need-line-of-requires
 line-of-requires c κs = search needs
 
--- src/lib.rt:227:14
 plus-requires : tie.Need-plus-requires
 plus-requires c κs = search needs
 
--- src/lib.rt:218:1
 returns : tie.Need-returns
 unfolding askedOf
 returns c = rw (c .plus .ensures, c .before .before .line-of .ensures)

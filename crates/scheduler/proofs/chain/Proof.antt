@@ -1,3 +1,4 @@
+-- `scheduler::chain` meets its contract. Assumes nothing.
 use mathlib.Core.Path.{_≡_, sym, ap, _∙_, subst⁻¹}
 use Rattle.rules.specs.declared.Call.the-variants.{Chain}
 use Rattle.jobs.specs.declared.JobList.{JobList}
@@ -8,7 +9,8 @@ use Rattle.scheduler.specs.declared.Change.{Change}
 use Rattle.scheduler.specs.Steps.{chainRefusal, chainedIn}
 use Rattle.scheduler.proofs.Rows.{refusalIn}
 use Rattle.scheduler.proofs.Whole.{changeIn, endedOf}
-use Rattle.scheduler.proofs.Facts.{handed-shaped, handed-sorted, handed-short, handed-refused, handed-accepted, hand-on, Ends, chain-ends, others-shaped, others-few, chained-shaped, ended-by}
+use Rattle.scheduler.proofs.Handed.{handed-shaped, handed-sorted, handed-short, handed-refused, handed-accepted, hand-on, Ends, chain-ends, others-shaped, others-few}
+use Rattle.scheduler.proofs.Cases.{chained-shaped, ended-by}
 use borrow.Author.Needs.{needs}
 use Rattle.scheduler.proofs.chain.Statement.{statement}
 use Rattle.scheduler.proofs.chain.Tie as tie
@@ -34,19 +36,15 @@ change c =
     ∙ ap (chainedIn (a .task) _) (ap (λ (z : JobList). view z) (c .before .remove .ensures) ∙ view-pack _)
     ∙ ap (λ (x : Activation). chainedIn (a .task) (x .due) (removeAt 0 (view (a .s .list)))) (c .before .before .before .before .before .before .asked .ensures)
 
--- src/lib.rt:140:9
 asked-requires : tie.Need-asked-requires
 asked-requires c κs = search needs
 
--- src/lib.rt:141:9
 chain-refusal-requires : tie.Need-chain-refusal-requires
 chain-refusal-requires c κs = handed-shaped (c .before .args .s) (c .before .pre)
 
--- src/lib.rt:143:9
 refused-requires : tie.Need-refused-requires
 refused-requires c κs = handed-shaped (c .before .before .before .args .s) (c .before .before .before .pre)
 
--- src/lib.rt:143:9
 returns : tie.Need-returns
 returns c =
     let b = c .before .before .before .before in
@@ -54,38 +52,32 @@ returns c =
     hand-on (a .s) (b .pre) (Chain (a .at) (a .task)) _
     (c .refused .ensures ∙ handed-refused (a .s) (b .pre) (Chain (a .at) (a .task)) _ (number (c .before .before)) (c .before .if1 .taken))
 
--- src/lib.rt:145:9
 newly-late-requires : tie.Need-newly-late-requires
 newly-late-requires c κs =
     let b = c .before .before .before in
     (handed-shaped (b .args .s) (b .pre), handed-sorted (b .args .s) (b .pre))
 
--- src/lib.rt:146:9
 tallied-requires : tie.Need-tallied-requires
 tallied-requires c κs =
     let b = c .before .before .before .before in
     (handed-shaped (b .args .s) (b .pre), handed-short (b .args .s) (b .pre), ends (c .before) .in-time)
 
--- src/lib.rt:147:9
 remove-requires : tie.Need-remove-requires
 remove-requires c κs =
     let b = c .before .before .before .before .before in
     (handed-shaped (b .args .s) (b .pre), ends (c .before .before) .some-one)
 
--- src/lib.rt:148:9
 chained-requires : tie.Need-chained-requires
 chained-requires c κs =
     let b = c .before .before .before .before .before .before in
     others-shaped (b .args .s) (b .pre) (b .args .at) (ends (c .before .before .before)) _ (c .remove .ensures)
 
--- src/lib.rt:149:5
 accepted-requires : tie.Need-accepted-requires
 accepted-requires c κs =
     let b = c .before .before .before .before .before .before .before in
     let few = others-few (b .args .s) (b .pre) (b .args .at) (ends (c .before .before .before .before)) in
     subst⁻¹ (λ (z : Change). Shaped (z .list)) (change c) (chained-shaped (b .args .task) _ _ few)
 
--- src/lib.rt:136:1
 returns-2 : tie.Need-returns-2
 returns-2 c =
     let b = c .before .before .before .before .before .before .before .before in

@@ -1,3 +1,4 @@
+-- `scheduler::chain_refusal` meets its contract. Assumes nothing.
 use mathlib.Core.Path.{_≡_, refl, sym, _∙_}
 use mathlib.Core.Bool.{false}
 use lib.Dec.{leb, eqb}
@@ -6,7 +7,7 @@ use borrow.Author.Tests.{le-leb, lt-leb, eq-eqb, ne-eqb}
 use Rattle.rules.specs.Calls.{badTick}
 use Rattle.jobs.specs.Listed.{view, pendingOf}
 use Rattle.scheduler.specs.Steps.{chainRefusal}
-use Rattle.scheduler.proofs.Facts.{row-here, row-next}
+use Rattle.scheduler.proofs.Cases.{row-here, row-next}
 use borrow.Author.Needs.{needs}
 use Rattle.scheduler.proofs.chain_refusal.Statement.{statement}
 use Rattle.scheduler.proofs.chain_refusal.Tie as tie
@@ -25,25 +26,20 @@ not-4 : (c : tie.Else4)
     → leb (c .before .before .before .before .before .before .before .before .before .before .args .new .limit) (pendingOf (c .before .before .before .before .before .before .before .before .before .before .args .new .task) (drop 1 (view (c .before .before .before .before .before .before .before .before .before .before .args .list)))) ≡ false
 not-4 c = lt-leb _ _ (rw (c .before .pending-from .ensures) at (c .if4 .left))
 
--- src/lib.rt:196:8
 bad-tick-requires : tie.Need-bad-tick-requires
 bad-tick-requires c κs = search needs
 
--- src/lib.rt:197:9
 returns : tie.Need-returns
 unfolding chainRefusal
 returns c = row-here 8 _ _ (sym (c .before .bad-tick .ensures) ∙ c .if1 .taken)
 
--- src/lib.rt:200:9
 returns-2 : tie.Need-returns-2
 unfolding chainRefusal
 returns-2 c = row-next 8 _ _ 2 (not-8 (c .before .before)) (row-here 2 _ _ (eq-eqb _ 0 (c .if2 .taken)))
 
--- src/lib.rt:202:17
 cast-if3 : tie.Need-cast-if3
 cast-if3 c = search needs
 
--- src/lib.rt:203:9
 returns-3 : tie.Need-returns-3
 unfolding chainRefusal
 returns-3 c =
@@ -51,15 +47,12 @@ returns-3 c =
     (row-next 2 _ _ 3 (not-2 (c .before .before))
     (row-here 3 _ _ (le-leb _ _ (c .if3 .taken))))
 
--- src/lib.rt:205:8
 cast-if4 : tie.Need-cast-if4
 cast-if4 c = search needs
 
--- src/lib.rt:205:30
 pending-from-requires : tie.Need-pending-from-requires
 pending-from-requires c κs = search needs
 
--- src/lib.rt:206:9
 returns-4 : tie.Need-returns-4
 unfolding chainRefusal
 returns-4 c =
@@ -68,11 +61,9 @@ returns-4 c =
     (row-next 3 _ _ 4 (not-3 (c .before .before .before))
     (row-here 4 _ _ (le-leb _ _ (rw (c .before .pending-from .ensures) at (c .if4 .taken))))))
 
--- src/lib.rt:209:8
 is-beyond-requires : tie.Need-is-beyond-requires
 is-beyond-requires c κs = search needs
 
--- src/lib.rt:210:9
 returns-5 : tie.Need-returns-5
 unfolding chainRefusal
 returns-5 c =
@@ -82,7 +73,6 @@ returns-5 c =
     (row-next 4 _ _ 9 (not-4 (c .before .before .before))
     (row-here 9 _ _ (sym (c .before .is-beyond .ensures) ∙ c .if5 .taken)))))
 
--- src/lib.rt:191:1
 returns-6 : tie.Need-returns-6
 unfolding chainRefusal
 returns-6 c =

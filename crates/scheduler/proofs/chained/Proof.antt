@@ -1,3 +1,4 @@
+-- `scheduler::chained` meets its contract. Assumes nothing.
 use mathlib.Core.Path.{ap, _∙_}
 use Rattle.jobs.specs.declared.JobList.{JobList}
 use Rattle.jobs.specs.Listed.{view}
@@ -8,17 +9,14 @@ use borrow.Author.Needs.{needs}
 use Rattle.scheduler.proofs.chained.Statement.{statement}
 use Rattle.scheduler.proofs.chained.Tie as tie
 
--- src/lib.rt:308:9
 insert-requires : tie.Need-insert-requires
 insert-requires c κs = search needs
 
--- src/lib.rt:309:5
 settled-requires : tie.Need-settled-requires
 settled-requires c κs =
     let b = c .before in
     rw (c .insert .ensures) (insert-shaped (b .args .others) _ (b .pre .0) (b .pre .1))
 
--- src/lib.rt:299:1
 returns : tie.Need-returns
 unfolding chainedIn
 returns c = c .settled .ensures ∙ ap settledIn (ap (λ (z : JobList). view z) (c .before .insert .ensures) ∙ view-pack _)

@@ -1,25 +1,21 @@
+-- `scheduler::entered` meets its contract. Assumes nothing.
 use Rattle.scheduler.specs.Steps.{enteredIn}
 use borrow.Author.Needs.{needs}
 use Rattle.scheduler.proofs.entered.Statement.{statement}
 use Rattle.scheduler.proofs.entered.Tie as tie
 
--- src/lib.rt:279:9
 is-first-requires : tie.Need-is-first-requires
 is-first-requires c κs = search needs
 
--- src/lib.rt:280:9
 entry-phase-requires : tie.Need-entry-phase-requires
 entry-phase-requires c κs = search needs
 
--- src/lib.rt:283:15
 insert-requires : tie.Need-insert-requires
 insert-requires c κs = search needs
 
--- src/lib.rt:284:15
 entry-call-requires : tie.Need-entry-call-requires
 entry-call-requires c κs = search needs
 
--- src/lib.rt:270:1
 returns : tie.Need-returns
 unfolding enteredIn
 returns c = rw (c .entry-call .ensures, c .before .insert .ensures, c .before .before .entry-phase .ensures, c .before .before .before .is-first .ensures)

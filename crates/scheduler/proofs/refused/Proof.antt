@@ -1,17 +1,15 @@
+-- `scheduler::refused` meets its contract. Assumes nothing.
 use Rattle.scheduler.specs.Steps.{refusedOf}
 use borrow.Author.Needs.{needs}
 use Rattle.scheduler.proofs.refused.Statement.{statement}
 use Rattle.scheduler.proofs.refused.Tie as tie
 
--- src/lib.rt:341:18
 running-requires : tie.Need-running-requires
 running-requires c κs = search needs
 
--- src/lib.rt:343:15
 none-late-requires : tie.Need-none-late-requires
 none-late-requires c κs = search needs
 
--- src/lib.rt:335:1
 returns : tie.Need-returns
 unfolding refusedOf
 returns c = rw (c .none-late .ensures, c .before .running .ensures)

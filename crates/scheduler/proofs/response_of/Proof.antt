@@ -1,20 +1,18 @@
+-- `scheduler::response_of` meets its contract. Assumes nothing.
 use native.Mathlib.Omega.{arith}
 use Rattle.scheduler.specs.Steps.{responseIn}
 use borrow.Author.Needs.{needs}
 use Rattle.scheduler.proofs.response_of.Statement.{statement}
 use Rattle.scheduler.proofs.response_of.Tie as tie
 
--- src/lib.rt:317:9
 line-of-requires : tie.Need-line-of-requires
 line-of-requires c κs = search needs
 
--- src/lib.rt:320:5
 response-requires : tie.Need-response-requires
 response-requires c κs =
     let b = c .before .before .before in
     rw (c .before .before .line-of .ensures) (omega (arith, b .pre .0 .deadlines (b .args .job .task), b .pre .1))
 
--- src/lib.rt:313:1
 returns : tie.Need-returns
 unfolding responseIn
 returns c = rw (c .response .ensures, c .before .before .before .line-of .ensures)

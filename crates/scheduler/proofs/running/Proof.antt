@@ -1,20 +1,18 @@
+-- `scheduler::running` meets its contract. Assumes nothing.
 use mathlib.Core.Path.{sym, ap, _∙_}
 use Rattle.rules.specs.declared.Job.{Job}
 use Rattle.rules.specs.declared.Choice.the-variants.{Runs}
-use Rattle.scheduler.proofs.Facts.{choice-none, choice-first}
+use Rattle.scheduler.proofs.Cases.{choice-none, choice-first}
 use borrow.Author.Needs.{needs}
 use Rattle.scheduler.proofs.running.Statement.{statement}
 use Rattle.scheduler.proofs.running.Tie as tie
 
--- src/lib.rt:237:9
 returns : tie.Need-returns
 returns c = sym (choice-none (c .before .before .args .list) (c .if1 .taken))
 
--- src/lib.rt:239:9
 first-requires : tie.Need-first-requires
 first-requires c κs = search needs
 
--- src/lib.rt:232:1
 returns-2 : tie.Need-returns-2
 returns-2 c =
     let b = c .before .before .before .before in

@@ -1,28 +1,24 @@
+-- `scheduler::settle_call` meets its contract. Assumes nothing.
 use mathlib.Core.Path.{sym, ap, _∙_}
 use Rattle.rules.specs.declared.Job.{Job}
 use Rattle.rules.specs.declared.KernelCall.the-variants.{ChainTask}
-use Rattle.scheduler.proofs.Facts.{settle-none, settle-first}
+use Rattle.scheduler.proofs.Cases.{settle-none, settle-first}
 use borrow.Author.Needs.{needs}
 use Rattle.scheduler.proofs.settle_call.Statement.{statement}
 use Rattle.scheduler.proofs.settle_call.Tie as tie
 
--- src/lib.rt:277:9
 returns : tie.Need-returns
 returns c = sym (settle-none (c .before .before .args .list) (c .if1 .taken))
 
--- src/lib.rt:279:9
 first-requires : tie.Need-first-requires
 first-requires c κs = search needs
 
--- src/lib.rt:282:27
 enum-told : tie.Need-enum-told
 enum-told c = search needs
 
--- src/lib.rt:283:28
 enum-told-2 : tie.Need-enum-told-2
 enum-told-2 c = search needs
 
--- src/lib.rt:272:1
 returns-2 : tie.Need-returns-2
 returns-2 c =
     let f = c .before .before in
@@ -30,7 +26,6 @@ returns-2 c =
     ap (λ (x : Job). ChainTask (x .task)) (f .first .ensures)
     ∙ sym (settle-first (b .args .list) (b .pre) (f .before .if1 .left) _ (ap (λ (x : Job). x .phase) (sym (f .first .ensures)) ∙ c .enum-told .given .1))
 
--- src/lib.rt:272:1
 returns-3 : tie.Need-returns-3
 returns-3 c =
     let f = c .before .before in

@@ -1,17 +1,15 @@
+-- `scheduler::settled` meets its contract. Assumes nothing.
 use Rattle.scheduler.specs.Steps.{settledIn}
 use borrow.Author.Needs.{needs}
 use Rattle.scheduler.proofs.settled.Statement.{statement}
 use Rattle.scheduler.proofs.settled.Tie as tie
 
--- src/lib.rt:293:15
 release-first-requires : tie.Need-release-first-requires
 release-first-requires c κs = search needs
 
--- src/lib.rt:294:15
 settle-call-requires : tie.Need-settle-call-requires
 settle-call-requires c κs = search needs
 
--- src/lib.rt:288:1
 returns : tie.Need-returns
 unfolding settledIn
 returns c = rw (c .settle-call .ensures, c .before .release-first .ensures)

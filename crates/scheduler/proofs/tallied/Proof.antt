@@ -1,26 +1,22 @@
+-- `scheduler::tallied` meets its contract. Assumes nothing.
 use mathlib.Core.Path.{_∙_}
-use Rattle.scheduler.proofs.Facts.{tallied-by}
+use Rattle.scheduler.proofs.Cases.{tallied-by}
 use borrow.Author.Needs.{needs}
 use Rattle.scheduler.proofs.tallied.Statement.{statement}
 use Rattle.scheduler.proofs.tallied.Tie as tie
 
--- src/lib.rt:328:9
 first-requires : tie.Need-first-requires
 first-requires c κs = search needs
 
--- src/lib.rt:329:9
 response-of-requires : tie.Need-response-of-requires
 response-of-requires c κs = search needs
 
--- src/lib.rt:330:9
 with-late-requires : tie.Need-with-late-requires
 with-late-requires c κs = search needs
 
--- src/lib.rt:331:5
 with-ended-requires : tie.Need-with-ended-requires
 with-ended-requires c κs = search needs
 
--- src/lib.rt:324:1
 returns : tie.Need-returns
 returns c =
     let a = c .before .before .before .before .args in

@@ -1,3 +1,4 @@
+-- `scheduler::terminate` meets its contract. Assumes nothing.
 use mathlib.Core.Path.{_≡_, sym, ap, _∙_, subst⁻¹}
 use native.Mathlib.Omega.{arith}
 use Rattle.rules.specs.declared.Call.the-variants.{Terminate}
@@ -8,7 +9,8 @@ use Rattle.scheduler.specs.declared.Change.{Change}
 use Rattle.scheduler.specs.Steps.{settledIn}
 use Rattle.scheduler.proofs.Rows.{refusalIn}
 use Rattle.scheduler.proofs.Whole.{changeIn, endedOf}
-use Rattle.scheduler.proofs.Facts.{handed-shaped, handed-sorted, handed-short, handed-refused, handed-accepted, hand-on, Ends, terminate-ends, others-shaped, others-few, settled-shaped, ended-by}
+use Rattle.scheduler.proofs.Handed.{handed-shaped, handed-sorted, handed-short, handed-refused, handed-accepted, hand-on, Ends, terminate-ends, others-shaped, others-few}
+use Rattle.scheduler.proofs.Cases.{settled-shaped, ended-by}
 use borrow.Author.Needs.{needs}
 use Rattle.scheduler.proofs.terminate.Statement.{statement}
 use Rattle.scheduler.proofs.terminate.Tie as tie
@@ -24,15 +26,12 @@ ends c = let b = c .before .before in terminate-ends (b .args .s) (b .pre) (b .a
 change : (c : tie.After-settled) → c .settled .result ≡ changeIn (c .before .before .before .before .before .before .args .s) (Terminate (c .before .before .before .before .before .before .args .at))
 change c = c .settled .ensures ∙ ap settledIn (ap (λ (z : JobList). view z) (c .before .remove .ensures) ∙ view-pack _)
 
--- src/lib.rt:125:9
 terminate-refusal-requires : tie.Need-terminate-refusal-requires
 terminate-refusal-requires c κs = search needs
 
--- src/lib.rt:127:9
 refused-requires : tie.Need-refused-requires
 refused-requires c κs = handed-shaped (c .before .before .args .s) (c .before .before .pre)
 
--- src/lib.rt:127:9
 returns : tie.Need-returns
 returns c =
     let b = c .before .before .before in
@@ -40,38 +39,32 @@ returns c =
     hand-on (a .s) (b .pre) (Terminate (a .at)) _
     (c .refused .ensures ∙ handed-refused (a .s) (b .pre) (Terminate (a .at)) _ (c .before .before .terminate-refusal .ensures) (c .before .if1 .taken))
 
--- src/lib.rt:129:9
 newly-late-requires : tie.Need-newly-late-requires
 newly-late-requires c κs =
     let b = c .before .before in
     (handed-shaped (b .args .s) (b .pre), handed-sorted (b .args .s) (b .pre))
 
--- src/lib.rt:130:9
 tallied-requires : tie.Need-tallied-requires
 tallied-requires c κs =
     let b = c .before .before .before in
     (handed-shaped (b .args .s) (b .pre), handed-short (b .args .s) (b .pre), ends (c .before) .in-time)
 
--- src/lib.rt:131:9
 remove-requires : tie.Need-remove-requires
 remove-requires c κs =
     let b = c .before .before .before .before in
     (handed-shaped (b .args .s) (b .pre), ends (c .before .before) .some-one)
 
--- src/lib.rt:132:9
 settled-requires : tie.Need-settled-requires
 settled-requires c κs =
     let b = c .before .before .before .before .before in
     others-shaped (b .args .s) (b .pre) (b .args .at) (ends (c .before .before .before)) _ (c .remove .ensures) .0
 
--- src/lib.rt:133:5
 accepted-requires : tie.Need-accepted-requires
 accepted-requires c κs =
     let b = c .before .before .before .before .before .before in
     let few = others-few (b .args .s) (b .pre) (b .args .at) (ends (c .before .before .before .before)) in
     subst⁻¹ (λ (z : Change). Shaped (z .list)) (change c) (settled-shaped _ (omega (arith, few)))
 
--- src/lib.rt:121:1
 returns-2 : tie.Need-returns-2
 returns-2 c =
     let b = c .before .before .before .before .before .before .before in

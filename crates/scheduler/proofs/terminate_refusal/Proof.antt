@@ -1,8 +1,9 @@
+-- `scheduler::terminate_refusal` meets its contract. Assumes nothing.
 use mathlib.Core.Path.{_≡_, refl, sym, _∙_}
 use mathlib.Core.Bool.{false}
 use borrow.Author.Tests.{eq-eqb, ne-eqb}
 use Rattle.rules.specs.Calls.{badTick}
-use Rattle.scheduler.proofs.Facts.{row-here, row-next}
+use Rattle.scheduler.proofs.Cases.{row-here, row-next}
 use mathlib.Core.Path.{refl}
 use Rattle.scheduler.specs.Steps.{terminateRefusal}
 use borrow.Author.Needs.{needs}
@@ -13,24 +14,20 @@ use Rattle.scheduler.proofs.terminate_refusal.Tie as tie
 not-8 : (c : tie.Else1) → badTick (c .before .before .args .last) (c .before .before .args .at) ≡ false
 not-8 c = sym (c .before .bad-tick .ensures) ∙ c .if1 .left
 
--- src/lib.rt:181:8
 bad-tick-requires : tie.Need-bad-tick-requires
 bad-tick-requires c κs = search needs
 
--- src/lib.rt:182:9
 returns : tie.Need-returns
 unfolding terminateRefusal
 returns c = row-here 8 _ _ (sym (c .before .bad-tick .ensures) ∙ c .if1 .taken)
 
--- src/lib.rt:185:9
 returns-2 : tie.Need-returns-2
 unfolding terminateRefusal
-returns-2 c = row-next 8 _ _ 2 (not-8 (c .before .before)) (row-here 2 _ _ (eq-eqb _ 0 (c .if2 .taken)))
+returns-2 c = row-next 8 _ _ 2 (not-8 (c .before)) (row-here 2 _ _ (eq-eqb _ 0 (c .if2 .taken)))
 
--- src/lib.rt:178:1
 returns-3 : tie.Need-returns-3
 unfolding terminateRefusal
-returns-3 c = row-next 8 _ _ 0 (not-8 (c .before .before)) (row-next 2 _ _ 0 (ne-eqb _ 0 (c .if2 .left)) refl)
+returns-3 c = row-next 8 _ _ 0 (not-8 (c .before)) (row-next 2 _ _ 0 (ne-eqb _ 0 (c .if2 .left)) refl)
 
 pub terminate-refusal-spec : {M : Type 1} → statement M
 terminate-refusal-spec = tie.close (tie.spec bad-tick-requires returns returns-2 returns-3)

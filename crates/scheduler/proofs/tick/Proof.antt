@@ -1,8 +1,10 @@
+-- `scheduler::tick` meets its contract. Assumes nothing.
 use mathlib.Core.Path.{_≡_, refl, sym, _∙_}
 use native.Mathlib.Omega.{arith}
 use Rattle.rules.specs.declared.Call.the-variants.{Wait}
 use Rattle.scheduler.proofs.Rows.{refusalIn}
-use Rattle.scheduler.proofs.Facts.{handed-shaped, handed-sorted, handed-refused, handed-accepted, hand-on, row-here, row-next, moved-by}
+use Rattle.scheduler.proofs.Handed.{handed-shaped, handed-sorted, handed-refused, handed-accepted, hand-on}
+use Rattle.scheduler.proofs.Cases.{row-here, row-next, moved-by}
 use borrow.Author.Needs.{needs}
 use Rattle.scheduler.proofs.tick.Statement.{statement}
 use Rattle.scheduler.proofs.tick.Tie as tie
@@ -11,15 +13,12 @@ use Rattle.scheduler.proofs.tick.Tie as tie
 none : (c : tie.Else1) → refusalIn (c .before .before .args .s) (Wait (c .before .before .args .at)) ≡ 0
 none c = sym (row-next 8 _ 0 0 (sym (c .before .bad-tick .ensures) ∙ c .if1 .left) refl)
 
--- src/lib.rt:93:8
 bad-tick-requires : tie.Need-bad-tick-requires
 bad-tick-requires c κs = search needs
 
--- src/lib.rt:94:9
 refused-requires : tie.Need-refused-requires
 refused-requires c κs = handed-shaped (c .before .before .args .s) (c .before .before .pre)
 
--- src/lib.rt:94:9
 returns : tie.Need-returns
 returns c =
     let b = c .before .before .before in
@@ -27,21 +26,17 @@ returns c =
     let q = row-here 8 _ 0 (sym (c .before .before .bad-tick .ensures) ∙ c .before .if1 .taken) in
     hand-on (a .s) (b .pre) (Wait (a .at)) _ (c .refused .ensures ∙ handed-refused (a .s) (b .pre) (Wait (a .at)) 8 q (λ z. omega arith))
 
--- src/lib.rt:96:9
 newly-late-requires : tie.Need-newly-late-requires
 newly-late-requires c κs =
     let b = c .before .before in
     (handed-shaped (b .args .s) (b .pre), handed-sorted (b .args .s) (b .pre))
 
--- src/lib.rt:97:9
 with-late-requires : tie.Need-with-late-requires
 with-late-requires c κs = search needs
 
--- src/lib.rt:103:5
 accepted-requires : tie.Need-accepted-requires
 accepted-requires c κs = handed-shaped (c .before .before .before .before .before .args .s) (c .before .before .before .before .before .pre)
 
--- src/lib.rt:89:1
 returns-2 : tie.Need-returns-2
 returns-2 c =
     let b = c .before .before .before .before .before .before in

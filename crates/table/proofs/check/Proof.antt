@@ -1,3 +1,4 @@
+-- `table::check` meets its contract. Assumes nothing.
 use mathlib.Core.Path.{_≡_, _∙_}
 use lib.ListN.{length, length-map}
 use native.Mathlib.Omega.{arith}
@@ -11,41 +12,33 @@ use Rattle.table.proofs.check.Tie as tie
 full : (c : tie.Start) → length (c .args .table .lines) ≡ places
 full c = simp length-map at (c .good .0 .1 .1 .0 .1 .0 .1)
 
--- src/lib.rt:155:9
 returns : tie.Need-returns
 returns c = check-1 (c .before .args .table) (full (c .before)) (λ w. omega arith)
 
--- src/lib.rt:161:9
 returns-2 : tie.Need-returns-2
 returns-2 c = check-1 (c .before .before .args .table) (full (c .before .before)) (λ w. omega arith)
 
--- src/lib.rt:166:9
 ranges-requires : tie.Need-ranges-requires
 ranges-requires c κs = search needs
 
--- src/lib.rt:168:9
 returns-3 : tie.Need-returns-3
 returns-3 c =
     let b = c .before .before .before .before .before in
     let v = c .before .before .ranges in
     check-ranges (b .args .table) (full b) (omega arith, omega arith) (v .result) (v .ensures) (c .if3 .taken)
 
--- src/lib.rt:170:13
 limit-sum-requires : tie.Need-limit-sum-requires
 limit-sum-requires c κs = search needs
 
--- src/lib.rt:171:9
 returns-4 : tie.Need-returns-4
 returns-4 c =
     let b = c .before .before .before .before .before .before .before in
     let v = c .before .before .before .before .ranges in
     check-4 (b .args .table) (full b) (omega arith, omega arith) (v .result) (v .ensures) (omega arith) (omega arith)
 
--- src/lib.rt:176:5
 pairs-requires : tie.Need-pairs-requires
 pairs-requires c κs = search needs
 
--- src/lib.rt:150:1
 returns-5 : tie.Need-returns-5
 returns-5 c =
     let b = c .before .before .before .before .before .before .before .before in

@@ -1,22 +1,20 @@
+-- `table::clash` meets its contract. Assumes nothing.
 use mathlib.Core.Path.{sym}
 use native.Mathlib.Omega.{arith}
 use Rattle.table.proofs.Laws.{clash-first, clash-second, clash-none}
 use Rattle.table.proofs.clash.Statement.{statement}
 use Rattle.table.proofs.clash.Tie as tie
 
--- src/lib.rt:114:9
 returns : tie.Need-returns
 returns c =
     let a = c .before .before .before .before .before .args in
     sym (clash-first (a .x) (a .y) (omega arith))
 
--- src/lib.rt:117:9
 returns-2 : tie.Need-returns-2
 returns-2 c =
     let a = c .before .before .before .before .before .before .before .before .args in
     sym (clash-second (a .x) (a .y) (omega arith))
 
--- src/lib.rt:110:1
 returns-3 : tie.Need-returns-3
 returns-3 c =
     let a = c .before .before .before .before .before .before .args in

@@ -1,9 +1,9 @@
+-- `table::empty` meets its contract. Assumes nothing.
 use mathlib.Core.Path.{refl}
 use Rattle.table.specs.Lines.{packed}
 use Rattle.table.proofs.empty.Statement.{statement}
 use Rattle.table.proofs.empty.Tie as tie
 
--- src/lib.rt:195:1
 returns : tie.Need-returns
 unfolding packed
 returns c = refl

@@ -1,3 +1,4 @@
+-- `table::kept` meets its contract. Assumes nothing.
 use Prim.Native.Nat.{_-_}
 use mathlib.Core.Path.{_≡_, refl, sym, _∙_}
 use mathlib.Core.List.{_++_}
@@ -20,37 +21,29 @@ abbrev μ-loop : tie.MeasureT-loop
 full : (c : tie.Start Inv-loop μ-loop) → length (c .args .table .lines) ≡ places
 full c = simp length-map at (c .good .0 .1 .1 .0 .1 .0 .1)
 
--- src/lib.rt:187:5
 loop-holds : tie.Need-loop-holds Inv-loop μ-loop
 loop-holds c = (full (c .before), refl)
 
--- src/lib.rt:188:20
 blank-requires : tie.Need-blank-requires Inv-loop μ-loop
 blank-requires c κs = search needs
 
--- src/lib.rt:188:9
 mul-lines : tie.Need-mul-lines Inv-loop μ-loop
 mul-lines c = search needs
 
--- src/lib.rt:188:9
 array-set-from-lines : tie.Need-array-set-from-lines Inv-loop μ-loop
 array-set-from-lines c = search needs
 
--- src/lib.rt:189:9
 add-i : tie.Need-add-i Inv-loop μ-loop
 add-i c = search needs
 
--- src/lib.rt:187:5
 loop-less : tie.Need-loop-less Inv-loop μ-loop
 loop-less c = search needs
 
--- src/lib.rt:187:5
 loop-again : tie.Need-loop-again Inv-loop μ-loop
 loop-again c =
     let l = c .before .before .loop in
     (simp length-set (l .inv .0), rw (c .blank .ensures) (blank-turn (l .lines) (l .i) (l .inv .0) (omega arith) ∙ l .inv .1))
 
--- src/lib.rt:180:1
 returns : tie.Need-returns Inv-loop μ-loop
 returns c =
     let b = c .before .before .before in

@@ -1,3 +1,4 @@
+-- `table::line_of` meets its contract. Assumes nothing.
 use Prim.Native.Nat.{_≤_}
 use mathlib.Core.Path.{_≡_, sym, _∙_}
 use lib.ListN.{length, length-map, List·getD-eq-default}
@@ -8,23 +9,18 @@ use Rattle.table.specs.Lines.{places}
 use Rattle.table.proofs.line_of.Statement.{statement}
 use Rattle.table.proofs.line_of.Tie as tie
 
--- src/lib.rt:40:21
 mul-result : tie.Need-mul-result
 mul-result c = search needs
 
--- src/lib.rt:40:21
 element-copy-out-result : tie.Need-element-copy-out-result
 element-copy-out-result c = search needs
 
--- src/lib.rt:40:45
 blank-requires : tie.Need-blank-requires
 blank-requires c κs = search needs
 
--- src/lib.rt:36:1
 returns : tie.Need-returns
 returns c = search needs
 
--- src/lib.rt:36:1
 returns-2 : tie.Need-returns-2
 returns-2 c =
     let b = c .before .before in

@@ -1,3 +1,4 @@
+-- `table::pairs` meets its contract. Assumes nothing.
 use Prim.Native.Nat.{_+_, _-_}
 use mathlib.Core.Path.{_≡_, refl, sym, _∙_}
 use lib.ListN.{length-map, length, drop}
@@ -25,62 +26,48 @@ abbrev μ-lines : tie.MeasureT-lines
 full : (c : tie.Start Inv-loop μ-loop Inv-lines μ-lines) → length (c .args .t1 .lines) ≡ places
 full c = simp length-map at (c .good .0 .1 .1 .0 .1 .0 .1)
 
--- src/lib.rt:128:9
 fine-requires : tie.Need-fine-requires Inv-loop μ-loop Inv-lines μ-lines
 fine-requires c κs = search needs
 
--- src/lib.rt:130:5
 lines-holds : tie.Need-lines-holds Inv-loop μ-loop Inv-lines μ-lines
 lines-holds c = (c .fine .ensures, refl)
 
--- src/lib.rt:131:17
 mul-x : tie.Need-mul-x Inv-loop μ-loop Inv-lines μ-lines
 mul-x c = search needs
 
--- src/lib.rt:131:17
 element-copy-out-x : tie.Need-element-copy-out-x Inv-loop μ-loop Inv-lines μ-lines
 element-copy-out-x c = search needs
 
--- src/lib.rt:132:21
 add-j : tie.Need-add-j Inv-loop μ-loop Inv-lines μ-lines
 add-j c = search needs
 
--- src/lib.rt:133:9
 loop-holds : tie.Need-loop-holds Inv-loop μ-loop Inv-lines μ-lines
 loop-holds c =
     let b = c .before .before .before .before in
     let l = c .before .before .lines in
     (l .inv .0, pairs-enter (b .args .t1) (full b) (b .pre) (l .i) (omega arith) ∙ l .inv .1)
 
--- src/lib.rt:134:21
 mul-y : tie.Need-mul-y Inv-loop μ-loop Inv-lines μ-lines
 mul-y c = search needs
 
--- src/lib.rt:134:21
 element-copy-out-y : tie.Need-element-copy-out-y Inv-loop μ-loop Inv-lines μ-lines
 element-copy-out-y c = search needs
 
--- src/lib.rt:135:16
 clash-requires : tie.Need-clash-requires Inv-loop μ-loop Inv-lines μ-lines
 clash-requires c κs = search needs
 
--- src/lib.rt:138:45
 cast-t20 : tie.Need-cast-t20 Inv-loop μ-loop Inv-lines μ-lines
 cast-t20 c = search needs
 
--- src/lib.rt:138:54
 cast-t21 : tie.Need-cast-t21 Inv-loop μ-loop Inv-lines μ-lines
 cast-t21 c = search needs
 
--- src/lib.rt:142:13
 add-j-2 : tie.Need-add-j-2 Inv-loop μ-loop Inv-lines μ-lines
 add-j-2 c = search needs
 
--- src/lib.rt:133:9
 loop-less : tie.Need-loop-less Inv-loop μ-loop Inv-lines μ-lines
 loop-less c = search needs
 
--- src/lib.rt:133:9
 loop-again : tie.Need-loop-again Inv-loop μ-loop Inv-lines μ-lines
 loop-again c =
     let b = c .before .before .before .before .before .before .before .before .before in
@@ -88,15 +75,12 @@ loop-again c =
     let i = c .before .before .before .before .before .before .before .lines .i in
     (l .inv .0, pairs-turn (b .args .t1) (full b) (b .pre) i (l .j) _ _ (omega arith) (sym (c .before .clash .ensures) ∙ c .if1 .left) ∙ l .inv .1)
 
--- src/lib.rt:144:9
 add-i : tie.Need-add-i Inv-loop μ-loop Inv-lines μ-lines
 add-i c = search needs
 
--- src/lib.rt:130:5
 lines-less : tie.Need-lines-less Inv-loop μ-loop Inv-lines μ-lines
 lines-less c = search needs
 
--- src/lib.rt:130:5
 lines-again : tie.Need-lines-again Inv-loop μ-loop Inv-lines μ-lines
 lines-again c =
     let b = c .before .before .before .before .before .before in
@@ -104,14 +88,12 @@ lines-again c =
     let l = c .before .loop in
     (l .inv .0, pairs-leave (b .args .t1) (full b) (b .pre) i (l .j) _ _ (omega arith) ∙ l .inv .1)
 
--- src/lib.rt:123:1
 returns : tie.Need-returns Inv-loop μ-loop Inv-lines μ-lines
 returns c =
     let b = c .before .before .before in
     let l = c .before .lines in
     l .inv .0 ∙ sym (pairs-end (b .args .t1) (full b) (b .pre) (l .i) (omega arith)) ∙ l .inv .1
 
--- src/lib.rt:123:1
 returns-2 : tie.Need-returns-2 Inv-loop μ-loop Inv-lines μ-lines
 returns-2 c =
     let b = c .before .before .before .before .before .before .before .before .before in

@@ -1,3 +1,4 @@
+-- `table::ranges` meets its contract. Assumes nothing.
 use Prim.Native.Nat.{_-_}
 use mathlib.Core.Path.{_≡_, sym, _∙_}
 use lib.ListN.{length-map, length, drop}
@@ -19,27 +20,21 @@ abbrev μ-loop : tie.MeasureT-loop
 full : (c : tie.Start Inv-loop μ-loop) → length (c .args .t1 .lines) ≡ places
 full c = simp length-map at (c .good .0 .1 .1 .0 .1 .0 .1)
 
--- src/lib.rt:79:5
 loop-holds : tie.Need-loop-holds Inv-loop μ-loop
 loop-holds c = search needs
 
--- src/lib.rt:80:20
 mul-line : tie.Need-mul-line Inv-loop μ-loop
 mul-line c = search needs
 
--- src/lib.rt:80:20
 element-copy-out-line : tie.Need-element-copy-out-line Inv-loop μ-loop
 element-copy-out-line c = search needs
 
--- src/lib.rt:81:13
 line-refusal-requires : tie.Need-line-refusal-requires Inv-loop μ-loop
 line-refusal-requires c κs = search needs
 
--- src/lib.rt:85:39
 cast-t12 : tie.Need-cast-t12 Inv-loop μ-loop
 cast-t12 c = search needs
 
--- src/lib.rt:83:13
 returns : tie.Need-returns Inv-loop μ-loop
 returns c =
     let b = c .before .before .before .before .before in
@@ -47,26 +42,21 @@ returns c =
     let e = c .before .line-refusal .ensures in
     rw e (ranges-stop (b .args .t1) (full b) (b .pre) (l .i) (omega arith) (λ z. c .if1 .taken (e ∙ z)) ∙ l .inv)
 
--- src/lib.rt:88:9
 add-i : tie.Need-add-i Inv-loop μ-loop
 add-i c = search needs
 
--- src/lib.rt:79:5
 loop-less : tie.Need-loop-less Inv-loop μ-loop
 loop-less c = search needs
 
--- src/lib.rt:79:5
 loop-again : tie.Need-loop-again Inv-loop μ-loop
 loop-again c =
     let b = c .before .before .before .before .before in
     let l = c .before .before .before .before .loop in
     ranges-turn (b .args .t1) (full b) (b .pre) (l .i) (omega arith) (sym (c .before .line-refusal .ensures) ∙ c .if1 .left) ∙ l .inv
 
--- src/lib.rt:90:5
 fine-requires : tie.Need-fine-requires Inv-loop μ-loop
 fine-requires c κs = search needs
 
--- src/lib.rt:73:1
 returns-2 : tie.Need-returns-2 Inv-loop μ-loop
 returns-2 c =
     let b = c .before .before .before in

@@ -1,16 +1,15 @@
+-- `ticks::bad_tick` meets its contract. Assumes nothing.
 use mathlib.Core.Path.{sym}
 use native.Mathlib.Omega.{arith}
 use Rattle.ticks.proofs.Laws.{bad-below, bad-else}
 use Rattle.ticks.proofs.bad_tick.Statement.{statement}
 use Rattle.ticks.proofs.bad_tick.Tie as tie
 
--- src/lib.rt:42:9
 returns : tie.Need-returns
 returns c =
     let a = c .before .before .before .args in
     sym (bad-below (a .last) (a .at) (c .if1 .taken))
 
--- src/lib.rt:38:1
 returns-2 : tie.Need-returns-2
 returns-2 c =
     let a = c .before .before .before .before .args in

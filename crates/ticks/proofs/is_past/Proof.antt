@@ -1,9 +1,9 @@
+-- `ticks::is_past` meets its contract. Assumes nothing.
 use mathlib.Core.Path.{refl}
 use Rattle.rules.specs.Late.{isPast}
 use Rattle.ticks.proofs.is_past.Statement.{statement}
 use Rattle.ticks.proofs.is_past.Tie as tie
 
--- src/lib.rt:48:1
 returns : tie.Need-returns
 unfolding isPast
 returns c = refl

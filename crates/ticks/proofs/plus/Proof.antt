@@ -1,3 +1,4 @@
+-- `ticks::plus` meets its contract. Assumes nothing.
 use mathlib.Core.Path.{sym}
 use native.Mathlib.Omega.{arith}
 use Rattle.ticks.proofs.Laws.{sum-near, sum-far}
@@ -5,23 +6,19 @@ use borrow.Author.Needs.{needs}
 use Rattle.ticks.proofs.plus.Statement.{statement}
 use Rattle.ticks.proofs.plus.Tie as tie
 
--- src/lib.rt:22:9
 returns : tie.Need-returns
 returns c =
     let a = c .before .before .args in
     sym (sum-far (a .at) (a .deadline) (omega arith))
 
--- src/lib.rt:25:9
 returns-2 : tie.Need-returns-2
 returns-2 c =
     let a = c .before .before .before .before .before .args in
     sym (sum-far (a .at) (a .deadline) (omega arith))
 
--- src/lib.rt:27:10
 add-t4 : tie.Need-add-t4
 add-t4 c = search needs
 
--- src/lib.rt:18:1
 returns-3 : tie.Need-returns-3
 returns-3 c =
     let a = c .before .before .before .before .before .before .before .args in

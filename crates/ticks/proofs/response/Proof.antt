@@ -1,28 +1,24 @@
+-- `ticks::response` meets its contract. Assumes nothing.
 use native.Mathlib.Omega.{arith}
 use Rattle.ticks.specs.Ticks.{responseBy}
 use borrow.Author.Needs.{needs}
 use Rattle.ticks.proofs.response.Statement.{statement}
 use Rattle.ticks.proofs.response.Tie as tie
 
--- src/lib.rt:60:16
 add-result : tie.Need-add-result
 add-result c = search needs
 
--- src/lib.rt:60:9
 returns : tie.Need-returns
 unfolding responseBy
 returns c = omega arith
 
--- src/lib.rt:62:17
 sub-early : tie.Need-sub-early
 sub-early c = search needs
 
--- src/lib.rt:64:9
 returns-2 : tie.Need-returns-2
 unfolding responseBy
 returns-2 c = omega arith
 
--- src/lib.rt:55:1
 returns-3 : tie.Need-returns-3
 unfolding responseBy
 returns-3 c = omega arith
