@@ -1,0 +1,233 @@
+// Runs of calls: a table and calls in words, each printed with its answer.
+ghost use Prim.Native.Nat.{_≤_};
+ghost use lib.ListN.{length};
+ghost use Rattle.scheduler.specs.State.{Handed};
+use jobs::JobList;
+use monitor::Monitor;
+use rules::Answer;
+use rules::Call;
+use rules::Job;
+use rules::Phase;
+use rules::Tick;
+use rules::Verdict;
+use scheduler::State;
+use scheduler::Stepped;
+use show::WIDTH;
+
+// ---- the list
+
+fn phase(out: &mut [u8; WIDTH], at: usize, phase: Phase) -> usize {
+    match phase {
+        Phase::Delayed => show::words(out, at, b" delayed"),
+        Phase::Released => show::words(out, at, b" released"),
+    }
+}
+
+// A pending job: its task and deadline, and whether it is delayed or released.
+fn job(out: &mut [u8; WIDTH], at: usize, job: Job) -> usize {
+    let n = show::words(out, at, b", ");
+    let n = show::two(out, n, job.task as u64, job.due.0);
+    let now = job.phase;
+    phase(out, n, now)
+}
+
+// The last accepted tick, and the pending jobs.
+fn listed(list: JobList, last: Tick) {
+    let jobs = list.jobs;
+    let count = list.count;
+    let mut out = [0u8; WIDTH];
+    let mut n = show::words(&mut out, 0, b"list -> last ");
+    n = show::number(&mut out, n, last.0);
+    let mut i = 0;
+    while i < count {
+        if 32 <= i {
+            return;
+        }
+        let next = jobs[i];
+        n = job(&mut out, n, next);
+        i += 1;
+    }
+    show::send(&mut out, n);
+}
+
+// ---- calls
+
+fn tick_of(call: Call) -> Tick {
+    match call {
+        Call::Wait(at) => at,
+        Call::Activate(at, _) => at,
+        Call::Terminate(at) => at,
+        Call::Chain(at, _) => at,
+    }
+}
+
+fn obey(s: State, call: Call) -> Stepped
+    requires { ⌜ Handed s ⌝ }
+    ensures { λ r. ⌜ Handed (r .state) ⌝ }
+{
+    match call {
+        Call::Wait(at) => scheduler::tick(s, at),
+        Call::Activate(at, task) => scheduler::activate(s, at, task),
+        Call::Terminate(at) => scheduler::terminate(s, at),
+        Call::Chain(at, task) => scheduler::chain(s, at, task),
+    }
+}
+
+// The words in front of an answer; none in a bare run.
+fn asked(out: &mut [u8; WIDTH], text: &[u8], bare: bool) -> usize {
+    if bare {
+        return 0;
+    }
+    let n = show::words(out, 0, text);
+    show::words(out, n, b" -> ")
+}
+
+fn told(text: &[u8], bare: bool, at: Tick, answer: Answer) {
+    let mut out = [0u8; WIDTH];
+    let n = asked(&mut out, text, bare);
+    let n = show::answer(&mut out, n, at, answer);
+    show::send(&mut out, n);
+}
+
+// A line of a text. 'list' shows the state; an empty line does nothing; otherwise the call is made and printed.
+fn step(s: State, text: &[u8], bare: bool) -> State
+    requires { ⌜ Handed s ⌝ }
+    ensures { λ r. ⌜ Handed r ⌝ }
+{
+    let letter = script::byte_at(text, 0);
+    if letter == 0 {
+        return s;
+    }
+    if letter == b'l' {
+        listed(s.list, s.last);
+        return s;
+    }
+    let call = script::call_at(text, 0);
+    let r = obey(s, call);
+    let answer = r.answer;
+    told(text, bare, tick_of(call), answer);
+    let next = r.state;
+    next
+}
+
+// The calls of a text, one to a line.
+fn steps(s: State, text: &[u8], bare: bool) -> State
+    requires { ⌜ Handed s ⌝ }
+    ensures { λ r. ⌜ Handed r ⌝ }
+{
+    let mut now = s;
+    let mut i = 0;
+    while i < text.len() {
+        let end = script::find(text, i, b'\n');
+        now = step(now, &text[i..end], bare);
+        i = end + 1;
+    }
+    now
+}
+
+// ---- tables
+
+// What the place for the state holds after the check: how many lines and jobs, and the last accepted tick.
+fn fresh(out: &mut [u8; WIDTH], at: usize, s: State) -> usize {
+    let n = show::words(out, at, b"lines and jobs ");
+    let n = show::two(out, n, s.table.count as u64, s.list.count as u64);
+    let n = show::words(out, n, b", last tick ");
+    show::number(out, n, s.last.0)
+}
+
+// A table in words, and the check's answer; the state instead for 'state' and a table. An empty line does nothing.
+fn checked(text: &[u8]) {
+    let letter = script::byte_at(text, 0);
+    if letter == 0 {
+        return;
+    }
+    let r = scheduler::check(script::table_of(text));
+    let mut out = [0u8; WIDTH];
+    let n = show::words(&mut out, 0, text);
+    let n = show::words(&mut out, n, b" -> ");
+    if letter == b's' {
+        let n = fresh(&mut out, n, r.state);
+        show::send(&mut out, n);
+        return;
+    }
+    let n = show::verdict(&mut out, n, r.verdict);
+    show::send(&mut out, n);
+}
+
+// The check of each table of a text, one to a line.
+pub fn checks(heading: &[u8], tables: &[u8]) {
+    show::heading(heading);
+    let mut i = 0;
+    while i < tables.len() {
+        let end = script::find(tables, i, b'\n');
+        checked(&tables[i..end]);
+        i = end + 1;
+    }
+}
+
+fn refused(verdict: Verdict) {
+    let mut out = [0u8; WIDTH];
+    let n = show::verdict(&mut out, 0, verdict);
+    show::send(&mut out, n);
+}
+
+// ---- counts
+
+// What is counted of each task, one behind the other.
+fn counts(monitor: Monitor, tasks: usize) {
+    let tallies = monitor.tallies;
+    let mut out = [0u8; WIDTH];
+    let mut n = show::words(&mut out, 0, b"counts");
+    let mut i = 0;
+    while i < tasks {
+        if 32 <= i {
+            return;
+        }
+        if 0 < i {
+            n = show::byte(&mut out, n, b',');
+        }
+        n = show::byte(&mut out, n, b' ');
+        let tally = tallies[i];
+        n = show::tally(&mut out, n, tally);
+        i += 1;
+    }
+    show::send(&mut out, n);
+}
+
+// ---- runs
+
+fn titled(heading: &[u8], lines: &[u8]) {
+    let mut out = [0u8; WIDTH];
+    show::heading(heading);
+    let n = show::words(&mut out, 0, b"lines ");
+    let n = show::words(&mut out, n, lines);
+    show::send(&mut out, n);
+}
+
+// A run over a table: a heading, the lines, each call with its answer, and what is counted at the end.
+pub fn run(heading: &[u8], lines: &[u8], calls: &[u8]) {
+    titled(heading, lines);
+    let r = scheduler::check(script::table_of(lines));
+    let verdict = r.verdict;
+    if verdict.number != 0 {
+        refused(verdict);
+        return;
+    }
+    let start = r.state;
+    let end = steps(start, calls, false);
+    let monitor = end.monitor;
+    counts(monitor, end.table.count);
+}
+
+// A run as document 01 prints it.
+pub fn printed(lines: &[u8], calls: &[u8]) {
+    let r = scheduler::check(script::table_of(lines));
+    let verdict = r.verdict;
+    if verdict.number != 0 {
+        refused(verdict);
+        return;
+    }
+    show::header();
+    let start = r.state;
+    steps(start, calls, true);
+}

@@ -1,0 +1,192 @@
+// Tables and calls read from text, so that a run says in words what is called.
+ghost use Prim.Native.Nat.{_≤_};
+ghost use lib.ListN.{length};
+use rules::Call;
+use rules::Line;
+use rules::Span;
+use rules::Tick;
+use table::PLACES;
+use table::TaskTable;
+
+// ---- numbers
+
+// A number in a text, and the place behind it.
+pub struct Found {
+    pub value: u64,
+    pub next: usize,
+}
+
+fn is_digit(b: u8) -> bool {
+    if b < b'0' {
+        return false;
+    }
+    b <= b'9'
+}
+
+// A number with one more digit. From 18,446,744,073,709,551,610 on, numbers read as the greatest that 64 bits hold.
+fn with_digit(value: u64, b: u8) -> u64 {
+    if 1844674407370955160 < value {
+        return 18446744073709551615;
+    }
+    if b < b'0' {
+        return value * 10;
+    }
+    if b'9' < b {
+        return value * 10;
+    }
+    value * 10 + (b - b'0') as u64
+}
+
+// The first place from here on that holds a digit; the text's end where none does.
+fn digit_from(text: &[u8], from: usize) -> usize {
+    let mut i = from;
+    while i < text.len() {
+        if is_digit(text[i]) {
+            return i;
+        }
+        i += 1;
+    }
+    i
+}
+
+// The first number from here on; 0 where there is none.
+pub fn number(text: &[u8], from: usize) -> Found {
+    let mut i = digit_from(text, from);
+    let mut value: u64 = 0;
+    while i < text.len() {
+        let b = text[i];
+        if !is_digit(b) {
+            return Found { value, next: i };
+        }
+        value = with_digit(value, b);
+        i += 1;
+    }
+    Found { value, next: i }
+}
+
+// A number that is held in a byte; those above 255 read as 255.
+fn small(n: u64) -> u8 {
+    if 255 < n {
+        return 255;
+    }
+    n as u8
+}
+
+// The byte at a place; 0 past the end.
+pub fn byte_at(text: &[u8], at: usize) -> u8 {
+    if at < text.len() {
+        return text[at];
+    }
+    0
+}
+
+// The first place from here on that holds this byte; the text's end where none does.
+pub fn find(text: &[u8], from: usize, b: u8) -> usize
+    requires { ⌜ from ≤ length (now text) ⌝ }
+    ensures { λ r. ⌜ (from ≤ r) × (r ≤ length (now (text .entry))) ⌝ }
+{
+    let mut i = from;
+    while i < text.len() {
+        if text[i] == b {
+            return i;
+        }
+        i += 1;
+    }
+    i
+}
+
+// ---- calls
+
+// The letter that tells a call: its first one, or its second where that is a t.
+fn letter(text: &[u8], at: usize) -> u8 {
+    if at < text.len() {
+        if text[at] == b't' {
+            return byte_at(text, at + 1);
+        }
+    }
+    byte_at(text, at)
+}
+
+// 'activate 0 at 5', 'chain 0 at 5', 'terminate at 5', 'tick at 5': the call that starts here.
+pub fn call_at(text: &[u8], from: usize) -> Call {
+    let first = number(text, from);
+    let second = number(text, first.next);
+    match letter(text, from) {
+        b'a' => Call::Activate(Tick(second.value), small(first.value)),
+        b'c' => Call::Chain(Tick(second.value), small(first.value)),
+        b'e' => Call::Terminate(Tick(first.value)),
+        _ => Call::Wait(Tick(first.value)),
+    }
+}
+
+// ---- tables
+
+// D, priority and limit of a line.
+fn line_at(text: &[u8], from: usize) -> Line {
+    let d = number(text, from);
+    let p = number(text, d.next);
+    let l = number(text, p.next);
+    Line {
+        deadline: Span(d.value),
+        priority: small(p.value),
+        limit: small(l.value),
+    }
+}
+
+// One more line; from 33 lines on nothing changes.
+fn with_line(table: TaskTable, line: Line) -> TaskTable {
+    let n = table.count;
+    if PLACES < n {
+        return table;
+    }
+    let mut lines = table.lines;
+    if n < PLACES {
+        lines[n] = line;
+    }
+    TaskTable {
+        lines,
+        count: n + 1,
+    }
+}
+
+// A line some times over.
+fn with_lines(table: TaskTable, line: Line, times: u64) -> TaskTable {
+    let mut out = table;
+    let mut i: u64 = 0;
+    while i < times {
+        out = with_line(out, line);
+        i += 1;
+    }
+    out
+}
+
+// '3 12 2': a line by its D, priority and limit; '32x 3 12 2': 32 such lines; words with no number behind them: none.
+fn with_entry(table: TaskTable, text: &[u8], from: usize) -> TaskTable {
+    if text.len() <= digit_from(text, from) {
+        return table;
+    }
+    let n = number(text, from);
+    let next = n.next;
+    if byte_at(text, next) == b'x' {
+        return with_lines(table, line_at(text, next), n.value);
+    }
+    with_line(table, line_at(text, from))
+}
+
+// The lines of a text, with commas between them.
+pub fn table_of(text: &[u8]) -> TaskTable {
+    let mut table = TaskTable {
+        lines: [Line {
+            deadline: Span(0),
+            priority: 0,
+            limit: 0,
+        }; PLACES],
+        count: 0,
+    };
+    let mut i = 0;
+    while i < text.len() {
+        table = with_entry(table, text, i);
+        i = find(text, i, b',') + 1;
+    }
+    table
+}
