@@ -334,7 +334,9 @@ terminate at 41
 fn main() {
     show::say(b"lines: D, priority and limit of each line");
     show::say(b"call -> tick res run due call late");
-    show::say(b"list -> the last accepted tick, and the pending jobs by task and deadline");
+    show::say(
+        b"list -> the last accepted tick, the pending jobs by task and deadline; the job that the kernel picks",
+    );
     show::say(b"counts: late jobs, ended jobs and greatest response of each task");
     eight();
     eight_above();

@@ -1,11 +1,14 @@
 // Runs of calls: a table and calls in words, each printed with its answer.
 ghost use Prim.Native.Nat.{_≤_};
 ghost use lib.ListN.{length};
+ghost use Rattle.jobs.specs.Listed.{Shaped};
 ghost use Rattle.scheduler.specs.State.{Handed};
 use jobs::JobList;
+use kernel::Found;
 use monitor::Monitor;
 use rules::Answer;
 use rules::Call;
+use rules::Choice;
 use rules::Job;
 use rules::Phase;
 use rules::Tick;
@@ -13,6 +16,7 @@ use rules::Verdict;
 use scheduler::State;
 use scheduler::Stepped;
 use show::WIDTH;
+use table::TaskTable;
 
 // ---- the list
 
@@ -31,8 +35,27 @@ fn job(out: &mut [u8; WIDTH], at: usize, job: Job) -> usize {
     phase(out, n, now)
 }
 
-// The last accepted tick, and the pending jobs.
-fn listed(list: JobList, last: Tick) {
+// The job that the kernel's dispatcher picks, as an answer shows it.
+fn picked(list: JobList, table: TaskTable) -> Choice
+    requires { ⌜ Shaped list ⌝ }
+{
+    let found = kernel::dispatch(list, table);
+    match found {
+        Found::Nothing => Choice::Idle,
+        Found::At(k) => {
+            if 32 <= k {
+                return Choice::Idle;
+            }
+            let jobs = list.jobs;
+            let job = jobs[k];
+            let due = job.due;
+            Choice::Runs(job.task, due)
+        }
+    }
+}
+
+// The last accepted tick, the pending jobs, and the one that the dispatcher picks.
+fn listed(list: JobList, last: Tick, choice: Choice) {
     let jobs = list.jobs;
     let count = list.count;
     let mut out = [0u8; WIDTH];
@@ -47,6 +70,8 @@ fn listed(list: JobList, last: Tick) {
         n = job(&mut out, n, next);
         i += 1;
     }
+    n = show::words(&mut out, n, b"; kernel ");
+    n = show::running(&mut out, n, choice);
     show::send(&mut out, n);
 }
 
@@ -99,7 +124,8 @@ fn step(s: State, text: &[u8], bare: bool) -> State
         return s;
     }
     if letter == b'l' {
-        listed(s.list, s.last);
+        let choice = picked(s.list, s.table);
+        listed(s.list, s.last, choice);
         return s;
     }
     let call = script::call_at(text, 0);

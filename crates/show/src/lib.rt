@@ -72,7 +72,7 @@ pub fn two(out: &mut [u8; WIDTH], at: usize, x: u64, y: u64) -> usize
 }
 
 // The running task and its deadline.
-fn running(out: &mut [u8; WIDTH], at: usize, choice: Choice) -> usize
+pub fn running(out: &mut [u8; WIDTH], at: usize, choice: Choice) -> usize
     ensures { λ r. ⌜ Put (now (out .entry)) at (choiceText choice) (now (out .exit)) r ⌝ }
 {
     match choice {

@@ -5,10 +5,10 @@ use Rattle.play.proofs.listed.Statement.{statement}
 use Rattle.play.proofs.listed.Tie as tie
 
 abbrev Inv-loop : tie.InvT-loop
-Inv-loop jobs count out₀ n₀ i₀ out n i = Unit
+Inv-loop choice jobs count out₀ n₀ i₀ t11 out n i = Unit
 
 abbrev μ-loop : tie.MeasureT-loop
-μ-loop jobs count out₀ n₀ i₀ out n i = count - i
+μ-loop choice jobs count out₀ n₀ i₀ t11 out n i = count - i
 
 slice-aggregate-words : tie.Need-slice-aggregate-words Inv-loop μ-loop
 slice-aggregate-words c = search needs
@@ -43,6 +43,15 @@ loop-less c = search needs
 loop-again : tie.Need-loop-again Inv-loop μ-loop
 loop-again c = search needs
 
+slice-aggregate-words-2 : tie.Need-slice-aggregate-words-2 Inv-loop μ-loop
+slice-aggregate-words-2 c = search needs
+
+words-requires-2 : tie.Need-words-requires-2 Inv-loop μ-loop
+words-requires-2 c κs = search needs
+
+running-requires : tie.Need-running-requires Inv-loop μ-loop
+running-requires c κs = search needs
+
 send-requires : tie.Need-send-requires Inv-loop μ-loop
 send-requires c κs = search needs
 
@@ -66,5 +75,8 @@ listed-spec =
     add-i
     loop-less
     loop-again
+    slice-aggregate-words-2
+    words-requires-2
+    running-requires
     send-requires
     returns-2)
