@@ -48,4 +48,8 @@ cases =
       k-tenth-group = refl;
       l-fits = refl;
       l-too-many = refl;
+      ten-refused = refl;
+      ten-at-31 = refl;
+      ten-at-32 = refl;
+      ten-after-4 = refl;
     }

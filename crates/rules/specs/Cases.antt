@@ -1,9 +1,9 @@
--- Document 01, "The program and one whole run" and "Errors a builder could fall into": the printed run and cases a to l, as one statement. Assumes nothing.
+-- Document 01, "The program and one whole run" and "Errors a builder could fall into": the printed run and cases a to l, and number 10 on a table that the check refuses, as one statement. Assumes nothing.
 use Prim.Native.Nat.{ℕ}
 use mathlib.Core.Path.{_≡_}
 use mathlib.Core.Bool.{false}
 use mathlib.Core.List.{List, [], _∷_}
-use lib.ListN.{take}
+use lib.ListN.{take, replicate}
 use Rattle.rules.specs.declared.Tick.{Tick}
 use Rattle.rules.specs.declared.Line.{Line}
 use Rattle.rules.specs.declared.Named.the-variants.{NoneNamed, BothLines}
@@ -70,6 +70,13 @@ printed =
 abbrev pub twoOfTask0 : List Call
 twoOfTask0 = Activate (at 0) 0 ∷ Activate (at 0) 0 ∷ []
 
+-- 32 jobs, which only a table that the check refuses can have without being at a limit
+abbrev pub tableOver : Table
+tableOver = table (line 5 2 32 ∷ line 5 1 32 ∷ [])
+
+abbrev pub full : List Call
+full = replicate 32 (Activate (at 0) 0)
+
 pub record Cases : Type 0 where
   pub printed-table : check tableP ≡ verdict 0 NoneNamed
   pub printed-run :
@@ -126,3 +133,7 @@ pub record Cases : Type 0 where
       numberAt (0xFF ∷ 0xFF ∷ 0xFF ∷ 0xFF ∷ 0xFF ∷ 0xFF ∷ 0xFF ∷ 0xFF ∷ 0xBF ∷ 0x01 ∷ []) 0 ≡ Refused 23
   pub l-fits : check (table (line 3 2 16 ∷ line 5 1 16 ∷ [])) ≡ verdict 0 NoneNamed
   pub l-too-many : check (table (line 3 2 16 ∷ line 5 1 17 ∷ [])) ≡ verdict 4 NoneNamed
+  pub ten-refused : check tableOver ≡ verdict 4 NoneNamed
+  pub ten-at-31 : result tableOver (run tableOver fresh (take 31 full)) (Activate (at 0) 1) ≡ 0
+  pub ten-at-32 : result tableOver (run tableOver fresh full) (Activate (at 0) 1) ≡ 10
+  pub ten-after-4 : result tableOver (run tableOver fresh full) (Activate (at 0) 0) ≡ 4
