@@ -6,9 +6,10 @@ use native.Mathlib.Numerals.{add-one}
 use native.Mathlib.Omega.{arith}
 use lib.ListN.{length, drop, getD, length-take, length-append, length-replicate, replicate, drop-of-length-le}
 use lib.Seq.{drop-cons, getD-take, length-take-le, take-append-seam}
+use Rattle.rules.specs.Words.{places}
 use Rattle.rules.specs.declared.Job.{Job}
 use Rattle.jobs.specs.declared.JobList.{JobList}
-use Rattle.jobs.specs.Listed.{places, blankJob, view, pack, Shaped}
+use Rattle.jobs.specs.Listed.{blankJob, view, pack, Shaped}
 
 -- a list that is laid out has all the places
 pack-length : (xs : List Job) → length xs ≤ places → length (pack xs .jobs) ≡ places

@@ -10,11 +10,12 @@ use lib.Seq.{append-snoc, set-append-seam}
 use Rattle.rules.specs.declared.Job.{Job}
 use Rattle.rules.specs.declared.Tick.{Tick}
 use Rattle.rules.specs.declared.Late.{Late}
-use Rattle.rules.specs.Words.{only, All}
+use Rattle.rules.specs.Words.{only, All, places}
 use Rattle.rules.specs.Late.{isPast}
 use Rattle.rules.proofs.Past.{past-later}
 use Rattle.jobs.specs.declared.JobList.{JobList}
-use Rattle.jobs.specs.Listed.{places, blankJob, view, Shaped, Sorted, goesBefore, isNewlyLate, lateIn, newlyLateIn, lateStep}
+use Rattle.jobs.specs.Listed.{blankJob, view, Shaped, Sorted, goesBefore, isNewlyLate, lateIn, newlyLateIn}
+use Rattle.jobs.specs.Inside.{lateStep}
 use Rattle.jobs.proofs.Laid.{view-length, view-step}
 
 -- what `newly_late` has still to do

@@ -7,11 +7,13 @@ use native.Mathlib.Omega.{arith}
 use borrow.Author.Tests.{eq-eqb, ne-eqb}
 use lib.Dec.{eqb, eqb·suc-zero}
 use lib.ListN.{length, set, getD}
+use Rattle.rules.specs.Words.{places}
 use Rattle.rules.specs.declared.Job.{Job}
 use Rattle.rules.specs.declared.Phase.{Phase}
 use Rattle.rules.specs.declared.Phase.the-variants.{Delayed, Released}
 use Rattle.jobs.specs.declared.JobList.{JobList}
-use Rattle.jobs.specs.Listed.{places, blankJob, view, pack, Shaped, goesBefore, placeOf, isFirstIn, pendingOf, firstIn, releaseFirst}
+use Rattle.jobs.specs.Listed.{blankJob, view, pack, Shaped, goesBefore, isFirstIn, pendingOf, firstIn, releaseFirst}
+use Rattle.jobs.specs.Inside.{placeOf}
 use Rattle.jobs.proofs.Laid.{through}
 
 -- ---- the place of a new job

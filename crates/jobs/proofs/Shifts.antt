@@ -8,9 +8,11 @@ use native.Mathlib.Numerals.{add-one}
 use native.Mathlib.Omega.{arith}
 use lib.ListN.{length, take, drop, set, getD, replicate, take-append-drop}
 use lib.Seq.{drop-cons, take-suc-set, drop-set-lt, append-snoc, set-split}
+use Rattle.rules.specs.Words.{places}
 use Rattle.rules.specs.declared.Job.{Job}
 use Rattle.jobs.specs.declared.JobList.{JobList}
-use Rattle.jobs.specs.Listed.{places, blankJob, view, pack, Shaped, goesBefore, placeOf, insertDue, removeAt, shove, openAt, pull, closeAt}
+use Rattle.jobs.specs.Listed.{blankJob, view, pack, Shaped, goesBefore, insertDue, removeAt}
+use Rattle.jobs.specs.Inside.{placeOf, shove, openAt, pull, closeAt}
 use Rattle.jobs.proofs.Laid.{view-length, count-pack, pack-shaped}
 
 -- ---- one place back

@@ -1,2 +1,2 @@
 pub mod Listed
-pub mod Kept
+pub mod Inside

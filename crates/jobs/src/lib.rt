@@ -3,14 +3,14 @@ ghost use mathlib.Core.Path.{_≡_};
 ghost use mathlib.Core.List.{[]};
 ghost use Prim.Native.Nat.{_≤_, _<_};
 ghost use lib.ListN.{drop};
-ghost use Rattle.jobs.specs.Listed.{places, blankJob, openAt, closeAt, goesBefore, view, pack, Shaped, Sorted, placeOf, isFirstIn, insertDue, removeAt, pendingOf, firstIn, releaseFirst, lateStep, lateIn, newlyLateIn};
+ghost use Rattle.rules.specs.Words.{places};
+ghost use Rattle.jobs.specs.Listed.{blankJob, goesBefore, view, pack, Shaped, Sorted, isFirstIn, insertDue, removeAt, pendingOf, firstIn, releaseFirst, lateIn, newlyLateIn};
+ghost use Rattle.jobs.specs.Inside.{openAt, closeAt, placeOf, lateStep};
 use rules::Job;
 use rules::Late;
+use rules::PLACES;
 use rules::Phase;
 use rules::Tick;
-
-// How many jobs a list holds.
-pub const PLACES: usize = 32;
 
 // Places at and past the count hold a blank job.
 pub struct JobList {
@@ -42,7 +42,7 @@ pub fn empty() -> JobList
     }
 }
 
-// A job put at a place: those from there on go one place back, and what stood before the end falls off.
+// A job put at a place: those from there on go one place back, and what stood in the last place before the end falls off.
 fn opened(jobs: [Job; PLACES], at: usize, end: usize, job: Job) -> [Job; PLACES]
     requires { ⌜ (at ≤ end) × (end ≤ places) ⌝ }
     ensures { λ r. ⌜ r ≡ openAt at end job jobs ⌝ }
@@ -84,7 +84,7 @@ fn goes_before(job: Job, other: Job) -> bool
 }
 
 // The place of the first job that a new one goes before, or the place behind all.
-pub fn place(list: JobList, job: Job) -> usize
+fn place(list: JobList, job: Job) -> usize
     requires { ⌜ Shaped list ⌝ }
     ensures { λ r. ⌜ r ≡ placeOf job (view list) ⌝ }
 {
@@ -215,7 +215,7 @@ pub fn none_late() -> Late
     }
 }
 
-// The newly late jobs of a list whose first job may be late. Behind the first job that is not late, none is.
+// The newly late jobs, by a scan that stops at the first job that is not late: behind it none is.
 fn late_from(list: JobList, last: Tick, at: Tick) -> Late
     requires { ⌜ Shaped list × Sorted (view list) ⌝ }
     ensures { λ r. ⌜ r ≡ newlyLateIn last at (view list) ⌝ }
@@ -236,7 +236,7 @@ fn late_from(list: JobList, last: Tick, at: Tick) -> Late
     late
 }
 
-// The newly late jobs, in list order: late at this tick and not at the last one.
+// The newly late jobs, in list order: late at this tick and not at the last one. Where the first job is not late there is no scan.
 pub fn newly_late(list: JobList, last: Tick, at: Tick) -> Late
     requires { ⌜ Shaped list × Sorted (view list) ⌝ }
     ensures { λ r. ⌜ r ≡ newlyLateIn last at (view list) ⌝ }

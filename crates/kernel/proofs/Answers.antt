@@ -10,11 +10,10 @@ use Rattle.rules.specs.Run.{Head, headNext, Reached}
 use Rattle.rules.proofs.Reached.{reached-board, reached-next}
 use Rattle.table.specs.Lines.{packed}
 use Rattle.jobs.specs.Listed.{view, pack}
-use Rattle.jobs.specs.Kept.{kept}
 use Rattle.jobs.proofs.Laid.{view-pack}
 use Rattle.scheduler.specs.declared.State.{State}
 use Rattle.scheduler.specs.declared.Stepped.{Stepped}
-use Rattle.scheduler.specs.State.{stateOf, told, stepOf}
+use Rattle.scheduler.specs.State.{kept, stateOf, told, stepOf}
 use Rattle.scheduler.proofs.Back.{step-is}
 use Rattle.scheduler.proofs.Handed.{handed-by}
 use Rattle.kernel.specs.declared.Found.{Found}

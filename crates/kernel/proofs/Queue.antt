@@ -20,13 +20,13 @@ use Rattle.rules.specs.Run.{run}
 use Rattle.rules.specs.Statement.{pushed, releasedOf}
 use Rattle.rules.proofs.Lists.{rest-of, all-append, pairs-over}
 use Rattle.rules.proofs.Listing.{list-holds}
-use Rattle.jobs.specs.Kept.{kept}
 use Rattle.table.proofs.Packed.{kept-line}
 use Rattle.table.specs.Lines.{packed, lineAt}
 use Rattle.kernel.specs.declared.Found.{Found}
 use Rattle.kernel.specs.declared.Found.the-variants.{At, Nothing}
 use Rattle.kernel.specs.Dispatch.{dispatchOf}
 use Rattle.kernel.specs.Claims.{jobAt, placed, Chosen, DispatchIsKernel}
+use Rattle.scheduler.specs.State.{kept}
 use Rattle.kernel.proofs.Highest.{dispatch-is-highest}
 
 -- ---- the kernel's choice, from a queue

@@ -16,10 +16,9 @@ use Rattle.rules.specs.Jobs.{Job}
 use Rattle.rules.specs.Layer.{fresh, runningJob}
 use Rattle.rules.specs.Run.{run}
 use Rattle.jobs.specs.Listed.{view}
-use Rattle.jobs.specs.Kept.{kept}
 use Rattle.table.specs.Lines.{packed}
 use Rattle.scheduler.specs.declared.State.{State}
-use Rattle.scheduler.specs.State.{Handed, stepOf}
+use Rattle.scheduler.specs.State.{kept, Handed, stepOf}
 use Rattle.kernel.specs.declared.Found.{Found}
 use Rattle.kernel.specs.declared.Found.the-variants.{At, Nothing}
 use Rattle.kernel.specs.Dispatch.{priorityIn, dispatchOf}

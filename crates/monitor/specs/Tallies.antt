@@ -1,4 +1,4 @@
--- How the counts are kept by value. Assumes nothing.
+-- Document 01, "What a call returns": how the counts are kept by value. Assumes nothing.
 use Prim.Native.Nat.{ℕ}
 use mathlib.Core.List.{List}
 use lib.ListN.{take}

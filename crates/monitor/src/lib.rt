@@ -4,12 +4,11 @@ ghost use Prim.Native.Nat.{max};
 ghost use Rattle.rules.specs.Counts.{noTallies, up, lateMore, endedMore, onTask, withLate};
 ghost use Rattle.monitor.specs.Tallies.{counts, tasksOf};
 use rules::Late;
+use rules::PLACES;
 use rules::Tally;
 
-pub const PLACES: usize = 32;
-
 // Where the two counts stand still.
-pub const MOST: u32 = 4294967295;
+const MOST: u32 = 4294967295;
 
 // A tally for each task number.
 pub struct Monitor {

@@ -15,6 +15,10 @@ abbrev pub unless {ℓ} : {A : Type ℓ} → ℕ → A → A → A
 unless zero old new = new
 unless (suc r) old new = old
 
+-- how many places an array has: for the lines of a table, the jobs of a list, the late tasks of an answer, the tallies of a state
+abbrev pub places : ℕ
+places = 32
+
 -- a number from lo to hi, and its test
 abbrev pub Within : ℕ → ℕ → ℕ → Type 0
 Within lo hi x = (lo ≤ x) × (x ≤ hi)

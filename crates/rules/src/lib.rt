@@ -1,6 +1,9 @@
 ghost use Rattle.rules.specs.Claims.{Claims};
 // The data that document 01 speaks of. What it says of them stands in specs/.
 
+// How many lines a table holds, how many jobs a list, how many late tasks an answer and how many tallies a state.
+pub const PLACES: usize = 32;
+
 // A position in time.
 pub struct Tick(pub u64);
 
@@ -65,7 +68,7 @@ pub enum Choice {
 // Newly late jobs: their count, and their tasks in 32 places, unused places 0.
 pub struct Late {
     pub count: u8,
-    pub tasks: [u8; 32],
+    pub tasks: [u8; PLACES],
 }
 
 // What a call returns.

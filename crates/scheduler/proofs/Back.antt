@@ -18,9 +18,8 @@ use Rattle.rules.proofs.Reached.{reached-good, reached-marked}
 use Rattle.table.specs.Lines.{packed, lineAt}
 use Rattle.table.proofs.Packed.{kept-line, kept-lines}
 use Rattle.jobs.specs.Listed.{view, pack}
-use Rattle.jobs.specs.Kept.{kept}
 use Rattle.jobs.proofs.Laid.{view-pack}
-use Rattle.scheduler.specs.State.{stateOf, tableOf, jobOf, jobsOf, headOf, told, stepOf}
+use Rattle.scheduler.specs.State.{kept, stateOf, tableOf, jobBack, jobsOf, headOf, told, stepOf}
 
 -- ---- the table
 
@@ -34,20 +33,20 @@ table-back T h = ap (λ (ls : List Line). record { lines = ls }) (kept-lines (T 
 
 -- ---- the head
 
-jobs-back : (T : Table) (now : Tick) (l : List Job) → All (Sound T now) l → All (Marked now) l → map (jobOf T now) (map kept l) ≡ l
+jobs-back : (T : Table) (now : Tick) (l : List Job) → All (Sound T now) l → All (Marked now) l → map (jobBack T now) (map kept l) ≡ l
 jobs-back T now [] s m = refl
 jobs-back T now (j ∷ l) s m =
     let p : j .due .0 - (deadlineOf T (j .task)) .0 ≡ j .since .0 = omega (arith, s .0 .made .dues) in
     let k : isPast now (j .due) ≡ j .reported = sym (m .0 .mark) in
-    let q : map (jobOf T now) (map kept l) ≡ l = jobs-back T now l (s .1) (m .1) in
+    let q : map (jobBack T now) (map kept l) ≡ l = jobs-back T now l (s .1) (m .1) in
     λ i. record { task = j .task; since = record { 0 = p i }; due = j .due; phase = j .phase; reported = k i } ∷ q i
 
 module _ (T : Table) (h : Head) (r : Reached T h) where
   jobs-are : jobsOf (stateOf T h) ≡ h .board .jobs
   unfolding stateOf
   jobs-are =
-      ap (λ (t : Table). map (jobOf t (h .board .last)) (view (pack (map kept (h .board .jobs))))) (table-back T h)
-      ∙ ap (map (jobOf T (h .board .last))) (view-pack (map kept (h .board .jobs)))
+      ap (λ (t : Table). map (jobBack t (h .board .last)) (view (pack (map kept (h .board .jobs))))) (table-back T h)
+      ∙ ap (map (jobBack T (h .board .last))) (view-pack (map kept (h .board .jobs)))
       ∙ jobs-back T (h .board .last) (h .board .jobs) (reached-good T h r .sound) (reached-marked T h r)
 
   pub head-back : headOf (stateOf T h) ≡ h

@@ -12,10 +12,10 @@ use Rattle.rules.specs.declared.Phase.the-variants.{Delayed, Released}
 use Rattle.rules.specs.declared.Choice.the-variants.{Idle, Runs}
 use Rattle.rules.specs.declared.KernelCall.the-variants.{TerminateTask}
 use Rattle.rules.specs.declared.Late.{Late}
-use Rattle.rules.specs.Words.{_if_else_}
+use Rattle.rules.specs.Words.{_if_else_, places}
 use Rattle.rules.specs.Counts.{withLate, endedMore, onTask}
 use Rattle.table.specs.declared.TaskTable.{TaskTable}
-use Rattle.jobs.specs.Listed.{places, view, Shaped, isFirstIn, insertDue, firstIn, releaseFirst}
+use Rattle.jobs.specs.Listed.{view, Shaped, isFirstIn, insertDue, firstIn, releaseFirst}
 use Rattle.jobs.specs.declared.JobList.{JobList}
 use Rattle.jobs.proofs.Laid.{view-length, pack-shaped}
 use Rattle.jobs.proofs.Shifts.{length-insert}
@@ -24,7 +24,7 @@ use Rattle.monitor.specs.declared.Monitor.{Monitor}
 use Rattle.monitor.specs.Tallies.{counts, tasksOf}
 use Rattle.scheduler.specs.declared.State.{State}
 use Rattle.scheduler.specs.declared.Change.{Change}
-use Rattle.scheduler.specs.Steps.{choiceIn, settleAs, settleCall, enteredAs, enteredIn, settledIn, chainedIn, jobAs, responseIn, reported, talliedIn, acceptedOf}
+use Rattle.scheduler.specs.Steps.{choiceIn, settleAs, settleCall, enteredAs, enteredIn, settledIn, chainedIn, jobAs, responseIn, lateCounted, talliedIn, acceptedOf}
 use Rattle.scheduler.proofs.Whole.{lateOf, movedOf, endedOf}
 
 -- ---- the rows
@@ -67,8 +67,8 @@ settle-first l s n p e = settle-some (view l) (λ z. n (sym (view-length l s) �
 -- late jobs are counted, then the first job
 pub tallied-by : (t : TaskTable) (xs : List Entry) (at : Tick) (late : Late) (c : Monitor) (x : Entry) (k : ℕ) (m : Monitor)
     → x ≡ firstIn xs → k ≡ responseIn t x at → m ≡ counts (withLate (tasksOf late) (c .tallies))
-    → counts (onTask (x .task) (endedMore k) (m .tallies)) ≡ talliedIn t xs at (reported late c)
-unfolding reported talliedIn
+    → counts (onTask (x .task) (endedMore k) (m .tallies)) ≡ talliedIn t xs at (lateCounted late c)
+unfolding lateCounted talliedIn
 tallied-by t xs at late c x k m e f g =
     λ i. counts (onTask (e i .task) (endedMore ((f ∙ ap (λ (y : Entry). responseIn t y at) e) i)) (g i .tallies))
 
@@ -77,14 +77,14 @@ tallied-by t xs at late c x k m e f g =
 -- no job ends
 pub moved-by : (s : State) (t : Tick) (late : Late) (monitor : Monitor) (m : Change) → late ≡ lateOf s t → monitor ≡ counts (withLate (tasksOf late) (s .monitor .tallies))
     → acceptedOf (s .table) t late monitor m ≡ movedOf s t m
-unfolding reported
-moved-by s t late monitor m e f = λ i. acceptedOf (s .table) t (e i) ((f ∙ ap (λ (l : Late). reported l (s .monitor)) e) i) m
+unfolding lateCounted
+moved-by s t late monitor m e f = λ i. acceptedOf (s .table) t (e i) ((f ∙ ap (λ (l : Late). lateCounted l (s .monitor)) e) i) m
 
 -- the first job ends
-pub ended-by : (s : State) (t : Tick) (late : Late) (monitor : Monitor) (m : Change) → late ≡ lateOf s t → monitor ≡ talliedIn (s .table) (view (s .list)) t (reported late (s .monitor))
+pub ended-by : (s : State) (t : Tick) (late : Late) (monitor : Monitor) (m : Change) → late ≡ lateOf s t → monitor ≡ talliedIn (s .table) (view (s .list)) t (lateCounted late (s .monitor))
     → acceptedOf (s .table) t late monitor m ≡ endedOf s t m
 ended-by s t late monitor m e f =
-    λ i. acceptedOf (s .table) t (e i) ((f ∙ ap (λ (l : Late). talliedIn (s .table) (view (s .list)) t (reported l (s .monitor))) e) i) m
+    λ i. acceptedOf (s .table) t (e i) ((f ∙ ap (λ (l : Late). talliedIn (s .table) (view (s .list)) t (lateCounted l (s .monitor))) e) i) m
 
 -- ---- lists that the parts make
 

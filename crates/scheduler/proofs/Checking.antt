@@ -5,13 +5,13 @@ use mathlib.Core.List.{[]}
 use native.Mathlib.Omega.{arith}
 use lib.ListN.{length}
 use Rattle.rules.specs.declared.Verdict.{Verdict}
-use Rattle.rules.specs.Words.{unless}
+use Rattle.rules.specs.Words.{unless, places}
 use Rattle.rules.specs.Table.{Table, check}
 use Rattle.rules.specs.Run.{freshHead}
 use Rattle.rules.proofs.Checked.{keeps-found, found-keeps}
 use Rattle.rules.proofs.Reached.{reached-fresh}
 use Rattle.table.specs.declared.TaskTable.{TaskTable}
-use Rattle.table.specs.Lines.{places, packed, linesIn, given}
+use Rattle.table.specs.Lines.{packed, linesIn, given}
 use Rattle.table.proofs.Laws.{given-size, given-few}
 use Rattle.scheduler.specs.declared.State.{State}
 use Rattle.scheduler.specs.declared.Checked.{Checked}

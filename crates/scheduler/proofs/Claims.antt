@@ -1,49 +1,94 @@
 -- The claims of the check and the calls. Assumes nothing.
-use Prim.Native.Nat.{ℕ, zero, suc, _-_, _≤_}
-use mathlib.Core.Path.{_≡_, refl, ap, _∙_}
+use Prim.Native.Nat.{ℕ, zero, suc, _-_, _≤_, _<_}
+use mathlib.Core.Path.{_≡_, refl, sym, ap, _∙_, subst⁻¹}
 use mathlib.Core.List.{List, [], _∷_, map, append-nil}
 use native.Mathlib.Omega.{arith}
-use lib.ListN.{length}
+use native.Mathlib.Decide.{decLe}
+use lib.ListN.{length, length-append, length-replicate}
+use lib.Seq.{take-all, length-take-le}
 use Rattle.rules.specs.declared.Answer.{Answer}
 use Rattle.rules.specs.declared.Line.{Line}
 use Rattle.rules.specs.declared.Verdict.{Verdict}
 use Rattle.rules.specs.declared.Call.{Call}
-use Rattle.rules.specs.Words.{unless}
-use Rattle.rules.specs.Table.{Table, Keeps, check}
+use Rattle.rules.specs.Words.{unless, places}
+use Rattle.rules.specs.declared.Named.the-variants.{NoneNamed}
+use Rattle.rules.specs.Table.{Table, Keeps, size, fine, verdict, check}
+use Rattle.rules.specs.Statement.{row-1}
 use Rattle.rules.specs.Calls.{tickOf}
 use Rattle.rules.specs.Layer.{Board, fresh, next, answer, result, marked, done, lateTasks}
 use Rattle.rules.specs.Counts.{withLate, withEnded, ending}
 use Rattle.rules.specs.Plain.{Plain, start, plainNext}
 use Rattle.rules.specs.Run.{answers, Head, freshHead, headNext, headRun, Reached}
-use Rattle.rules.proofs.Checked.{keeps-found}
+use Rattle.rules.proofs.Checked.{keeps-found, check-exact}
 use Rattle.rules.proofs.Demand3.{Both, fresh-both, next-both, results-alike, same-choice}
 use Rattle.rules.proofs.Reached.{reached-fresh, reached-next}
-use Rattle.table.specs.Lines.{places, packed, linesIn, given}
-use Rattle.table.proofs.Packed.{kept-lines}
+use Rattle.table.specs.declared.TaskTable.{TaskTable}
+use Rattle.table.specs.Lines.{packed, linesIn, given}
+use Rattle.table.proofs.Packed.{kept-lines, count-packed}
 use Rattle.scheduler.specs.declared.State.{State}
 use Rattle.scheduler.specs.declared.Stepped.{Stepped}
-use Rattle.scheduler.specs.State.{stateOf, checkedOf, told, stepOf}
-use Rattle.scheduler.specs.Claims.{ReadsBack, HandsOut, RefusedUnchanged, checked, stateAfter, answered, plainResults, plainChoices, RunsAsRuled, Claims}
+use Rattle.scheduler.specs.State.{stateOf, Handed, checkedOf, told, stepOf}
+use Rattle.scheduler.specs.declared.Checked.{Checked}
+use Rattle.scheduler.specs.Claims.{ReadsBack, CopyOf, freshFor, AnswersEvery, RefusedUnchanged, checked, stateAfter, answered, plainResults, plainChoices, RunsAsRuled, Claims}
 use Rattle.scheduler.proofs.Back.{table-back, head-back, step-is}
 use Rattle.scheduler.proofs.Handed.{handed-by}
 
 reads-back : ReadsBack
 reads-back T h r = record { table = table-back T h; head = head-back T h r }
 
--- a table that is kept was given as it is
-given-back : (T : Table) → length (T .lines) ≤ places → given (packed (T .lines)) ≡ T
-unfolding packed
-given-back T m =
-    let z : length (T .lines) - places ≡ 0 = omega arith in
-    ap (λ (ls : List Line). record { lines = ls }) (rw z (append-nil (linesIn (packed (T .lines)))) ∙ kept-lines (T .lines))
+-- ---- the check
 
-hands-out : HandsOut
+-- past 32 lines every table is refused with 1
+over : (U : Table) → places < size U → check U ≡ verdict 1 NoneNamed
+over U m = check-exact U (verdict 1 NoneNamed) .1 (row-1 (λ w. omega (arith, w .1)))
+
+abbrev toldFor : Table → Checked
+toldFor U = record { state = freshFor U; verdict = check U }
+
+told-over : (U : Table) → places < size U → toldFor U ≡ record { state = stateOf (record { lines = [] }) freshHead; verdict = verdict 1 NoneNamed }
+told-over U m = λ i. record { state = stateOf (unless ((over U m i) .number) (record { lines = [] }) U) freshHead; verdict = over U m i }
+
+-- a copy gives its table, or one of as many lines
+module _ (T : Table) (g : TaskTable) (c : CopyOf T g) where
+  copy-few : size T ≤ places → given g ≡ T
+  copy-few m =
+      let z : g .count - places ≡ 0 = omega (arith, c .counted) in
+      ap (λ (ls : List Line). record { lines = ls }) (rw z (append-nil (linesIn g)) ∙ c .copied ∙ take-all places (T .lines) m)
+
+  copy-size : places < size T → size (given g) ≡ size T
+  copy-size m =
+      let n : length (linesIn g) ≡ places = ap length (c .copied) ∙ length-take-le places (T .lines) (omega arith) in
+      simp (length-append, length-replicate) (omega (arith, n, c .counted))
+
+  copy-told : Dec (size T ≤ places) → toldFor (given g) ≡ toldFor T
+  copy-told (yes m) = ap toldFor (copy-few m)
+  copy-told (no m) =
+      let b : places < size T = omega arith in
+      told-over (given g) (omega (arith, copy-size b)) ∙ sym (told-over T b)
+
+answers-every : AnswersEvery
 unfolding checkedOf
-hands-out T a =
-    let m : length (T .lines) ≤ places = keeps-found T (ap (λ (v : Verdict). v .number) a) .passes .counted .1 in
-    let g : given (packed (T .lines)) ≡ T = given-back T m in
-    (λ i. record { state = stateOf (unless ((check (g i)) .number) (record { lines = [] }) (g i)) freshHead; verdict = check (g i) })
-    ∙ (λ i. record { state = stateOf (unless ((a i) .number) (record { lines = [] }) T) freshHead; verdict = a i })
+answers-every T g c =
+    let e = copy-told T g c (decLe (size T) places) in
+    record {
+      gives = e;
+      hands-out = λ a. subst⁻¹ Handed (ap (λ (z : Checked). z .state) e) (fresh-for a);
+    }
+  where
+    fresh-for : check T ≡ fine → Handed (freshFor T)
+    fresh-for a =
+        subst⁻¹ (λ (v : Verdict). Handed (stateOf (unless (v .number) (record { lines = [] }) T) freshHead)) a
+        (record { table = T; head = freshHead; reached = reached-fresh T a; is = refl })
+
+-- a table that is laid out is a copy of itself
+copy-packed : (T : Table) → size T ≤ places → CopyOf T (packed (T .lines))
+copy-packed T m = record { counted = count-packed (T .lines); copied = kept-lines (T .lines) ∙ sym (take-all places (T .lines) m) }
+
+checked-is : (T : Table) → check T ≡ fine → checked T ≡ stateOf T freshHead
+checked-is T a =
+    let m = keeps-found T (ap (λ (v : Verdict). v .number) a) .passes .counted .1 in
+    ap (λ (z : Checked). z .state) (answers-every T (packed (T .lines)) (copy-packed T m) .gives)
+    ∙ ap (λ (v : Verdict). stateOf (unless (v .number) (record { lines = [] }) T) freshHead) a
 
 -- ---- refused calls
 
@@ -106,7 +151,7 @@ runs-as-ruled : RunsAsRuled
 runs-as-ruled T a calls =
     let keeps = keeps-found T (ap (λ (v : Verdict). v .number) a) in
     let r = reached-fresh T a in
-    let c : checked T ≡ stateOf T freshHead = ap (λ z. z .state) (hands-out T a) in
+    let c = checked-is T a in
     let told-so : answered (checked T) calls ≡ answers T fresh calls = ap (λ (z : State). answered z calls) c ∙ answers-from T freshHead r calls in
     record {
       answers-are = told-so;
@@ -116,4 +161,4 @@ runs-as-ruled T a calls =
     }
 
 pub the-claims : Claims
-the-claims = record { reads-back = reads-back; hands-out = hands-out; refused-unchanged = refused-unchanged; runs-as-ruled = runs-as-ruled }
+the-claims = record { reads-back = reads-back; answers-every = answers-every; refused-unchanged = refused-unchanged; runs-as-ruled = runs-as-ruled }

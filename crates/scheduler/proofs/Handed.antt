@@ -6,6 +6,7 @@ use mathlib.Core.Option.{none}
 use native.Mathlib.Omega.{arith}
 use native.Mathlib.Decide.{decLt}
 use lib.ListN.{length, List·getD-eq-default}
+use Rattle.rules.specs.Words.{places}
 use Rattle.rules.specs.declared.Tick.{Tick}
 use Rattle.rules.specs.declared.Line.{Line}
 use Rattle.rules.specs.declared.Call.{Call}
@@ -18,14 +19,13 @@ use Rattle.rules.specs.Statement.{firstTask}
 use Rattle.rules.proofs.Order.{Higher}
 use Rattle.rules.proofs.Allowed.{allowed}
 use Rattle.rules.proofs.Reached.{reached-next, reached-good, reached-room, reached-task, reached-keeps}
-use Rattle.jobs.specs.Listed.{places, view, pack, Shaped, Sorted, removeAt}
+use Rattle.jobs.specs.Listed.{view, pack, Shaped, Sorted, removeAt}
 use Rattle.jobs.specs.declared.JobList.{JobList}
-use Rattle.jobs.specs.Kept.{kept}
 use Rattle.jobs.proofs.Laid.{view-pack, count-pack, pack-shaped}
 use Rattle.jobs.proofs.Shifts.{remove-shaped}
 use Rattle.scheduler.specs.declared.State.{State}
 use Rattle.scheduler.specs.declared.Stepped.{Stepped}
-use Rattle.scheduler.specs.State.{stateOf, Handed, told, stepOf}
+use Rattle.scheduler.specs.State.{kept, stateOf, Handed, told, stepOf}
 use Rattle.scheduler.specs.Steps.{Short, refusedOf}
 use Rattle.scheduler.proofs.Back.{line-is, step-is}
 use Rattle.scheduler.proofs.Parts.{length-kept, length-tasks, sorted-is}

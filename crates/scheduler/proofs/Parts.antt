@@ -5,7 +5,7 @@ use mathlib.Core.Bool.{Bool, true, false, cond, not, _&&_}
 use mathlib.Core.List.{List, [], _∷_, map}
 use native.Mathlib.Omega.{arith}
 use lib.Dec.{eqb}
-use lib.ListN.{length, drop}
+use lib.ListN.{length, length-map, drop}
 use Rattle.rules.specs.declared.Job.{Job as Entry}
 use Rattle.rules.specs.declared.Tick.{Tick}
 use Rattle.rules.specs.declared.Line.{Line}
@@ -26,21 +26,19 @@ use Rattle.rules.proofs.Marks.{Marked}
 use Rattle.ticks.specs.Ticks.{responseBy}
 use Rattle.table.specs.Lines.{packed, lineAt}
 use Rattle.jobs.specs.Listed.{pack, goesBefore, Sorted, isFirstIn, insertDue, removeAt, firstIn, releaseFirst, pendingOf, isNewlyLate}
-use Rattle.jobs.specs.Kept.{kept}
 use Rattle.monitor.specs.Tallies.{counts}
 use Rattle.scheduler.specs.declared.Change.{Change}
 use Rattle.scheduler.specs.Steps.{choiceIn, jobAs, enteredAs, enteredIn, settleAs, settleCall, settledIn, chainedIn, responseIn, talliedIn}
+use Rattle.scheduler.specs.State.{kept}
 use Rattle.scheduler.proofs.Back.{line-is}
 
 -- ---- lists
 
 pub length-kept : (l : List Job) → length (map kept l) ≡ length l
-length-kept [] = refl
-length-kept (j ∷ l) = ap suc (length-kept l)
+length-kept l = length-map l kept
 
 pub length-tasks : (l : List Job) → length (map kept l) ≡ length (tasks l)
-length-tasks [] = refl
-length-tasks (j ∷ l) = ap suc (length-tasks l)
+length-tasks l = length-map l kept ∙ sym (length-map l (λ (j : Job). j .task))
 
 -- a mark is not kept
 pub kept-marked : (t : Tick) (l : List Job) → map kept (map (markedAt t) l) ≡ map kept l

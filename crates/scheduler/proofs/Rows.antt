@@ -21,10 +21,9 @@ use Rattle.ticks.specs.Ticks.{sum, isBeyond}
 use Rattle.ticks.proofs.Laws.{sum-beyond}
 use Rattle.table.specs.Lines.{packed, lineAt}
 use Rattle.jobs.specs.Listed.{pack, pendingOf}
-use Rattle.jobs.specs.Kept.{kept}
 use Rattle.jobs.proofs.Laid.{view-pack, count-pack}
 use Rattle.scheduler.specs.declared.State.{State}
-use Rattle.scheduler.specs.State.{stateOf}
+use Rattle.scheduler.specs.State.{kept, stateOf}
 use Rattle.scheduler.specs.Steps.{askedOf, activateRefusal, terminateRefusal, chainRefusal}
 use Rattle.scheduler.proofs.Back.{line-is}
 use Rattle.scheduler.proofs.Parts.{length-tasks, pending-is, drop-is}

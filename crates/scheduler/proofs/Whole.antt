@@ -33,15 +33,14 @@ use Rattle.ticks.specs.Ticks.{sum}
 use Rattle.ticks.proofs.Laws.{sum-near}
 use Rattle.table.specs.Lines.{packed}
 use Rattle.jobs.specs.Listed.{view, pack, removeAt, lateIn, newlyLateIn}
-use Rattle.jobs.specs.Kept.{kept}
 use Rattle.jobs.proofs.Laid.{view-pack}
 use Rattle.monitor.specs.declared.Monitor.{Monitor}
 use Rattle.monitor.specs.Tallies.{counts, tasksOf}
 use Rattle.scheduler.specs.declared.State.{State}
 use Rattle.scheduler.specs.declared.Stepped.{Stepped}
 use Rattle.scheduler.specs.declared.Change.{Change}
-use Rattle.scheduler.specs.State.{stateOf, told}
-use Rattle.scheduler.specs.Steps.{choiceIn, askedOf, enteredIn, settledIn, chainedIn, reported, talliedIn, refusedOf, acceptedOf}
+use Rattle.scheduler.specs.State.{kept, stateOf, told}
+use Rattle.scheduler.specs.Steps.{choiceIn, askedOf, enteredIn, settledIn, chainedIn, lateCounted, talliedIn, refusedOf, acceptedOf}
 use Rattle.scheduler.proofs.Back.{line-is}
 use Rattle.scheduler.proofs.Parts.{kept-marked, remove-is, choice-is, late-is, changeOf, entered-is, settled-is, chained-is, ended-is}
 
@@ -57,10 +56,10 @@ lateOf s t = newlyLateIn (s .last) t (view (s .list))
 
 -- where no job ends, and where the first one does
 abbrev pub movedOf : State → Tick → Change → Stepped
-movedOf s t m = acceptedOf (s .table) t (lateOf s t) (reported (lateOf s t) (s .monitor)) m
+movedOf s t m = acceptedOf (s .table) t (lateOf s t) (lateCounted (lateOf s t) (s .monitor)) m
 
 abbrev pub endedOf : State → Tick → Change → Stepped
-endedOf s t m = acceptedOf (s .table) t (lateOf s t) (talliedIn (s .table) (view (s .list)) t (reported (lateOf s t) (s .monitor))) m
+endedOf s t m = acceptedOf (s .table) t (lateOf s t) (talliedIn (s .table) (view (s .list)) t (lateCounted (lateOf s t) (s .monitor))) m
 
 abbrev pub acceptedIn : State → Call → Stepped
 acceptedIn s (Wait t) = movedOf s t (changeIn s (Wait t))
@@ -87,8 +86,8 @@ module _ (T : Table) (h : Head) (r : Reached T h) where
   late-same t =
       ap (newlyLateIn (b .last) t) (view-pack (map kept (b .jobs))) ∙ ap lateIn (late-is (b .last) t (b .jobs) (reached-marked T h r))
 
-  reported-same : (t : Tick) → reported (newlyLateIn (b .last) t (view (pack (map kept (b .jobs))))) (counts (h .tallies)) ≡ counts (withLate (lates t) (h .tallies))
-  unfolding reported
+  reported-same : (t : Tick) → lateCounted (newlyLateIn (b .last) t (view (pack (map kept (b .jobs))))) (counts (h .tallies)) ≡ counts (withLate (lates t) (h .tallies))
+  unfolding lateCounted
   reported-same t = ap (λ (z : List ℕ). counts (withLate z (h .tallies))) (ap tasksOf (late-same t) ∙ tasks-back (lates t))
 
   moved-same : (t : Tick) (m : Change) → movedOf (stateOf T h) t m ≡ acceptedOf (packed (T .lines)) t (lateIn (lates t)) (counts (withLate (lates t) (h .tallies))) m

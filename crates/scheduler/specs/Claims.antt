@@ -2,14 +2,17 @@
 use mathlib.Core.Path.{_≡_}
 use mathlib.Core.List.{List, [], _∷_, map}
 use Prim.Native.Nat.{ℕ}
+use lib.ListN.{take}
 use Rattle.rules.specs.declared.Answer.{Answer}
 use Rattle.rules.specs.declared.Call.{Call}
 use Rattle.rules.specs.declared.Choice.{Choice}
-use Rattle.rules.specs.Table.{Table, fine, check}
+use Rattle.rules.specs.Words.{unless, places}
+use Rattle.rules.specs.Table.{Table, size, fine, check}
 use Rattle.rules.specs.Layer.{fresh}
 use Rattle.rules.specs.Plain.{Plain, start, plainResult, plainChoice, plainNext}
 use Rattle.rules.specs.Run.{answers, Head, freshHead, headRun, Reached}
-use Rattle.table.specs.Lines.{packed}
+use Rattle.table.specs.declared.TaskTable.{TaskTable}
+use Rattle.table.specs.Lines.{packed, linesIn}
 use Rattle.scheduler.specs.declared.State.{State}
 use Rattle.scheduler.specs.State.{stateOf, tableOf, headOf, Handed, checkedOf, stepOf}
 
@@ -21,9 +24,22 @@ pub record Back (T : Table) (h : Head) : Type 0 where
 abbrev pub ReadsBack : Type 0
 ReadsBack = (T : Table) (h : Head) → Reached T h → Back T h
 
--- the check hands out a fresh state of every table that it accepts
-abbrev pub HandsOut : Type 0
-HandsOut = (T : Table) → check T ≡ fine → checkedOf (packed (T .lines)) ≡ record { state = stateOf T freshHead; verdict = fine }
+-- g holds a table: its first 32 lines and its true count, whatever stands behind them
+pub record CopyOf (T : Table) (g : TaskTable) : Type 0 where
+  pub counted : g .count ≡ size T
+  pub copied : linesIn g ≡ take places (T .lines)
+
+-- a fresh state of a table that is accepted; after a refusal an empty one of no lines
+abbrev pub freshFor : Table → State
+freshFor T = stateOf (unless ((check T) .number) (record { lines = [] }) T) freshHead
+
+-- every table, accepted or refused, gets the rule-book's answer; a state is handed out where that is 0
+pub record Answered (T : Table) (g : TaskTable) : Type 0 where
+  pub gives : checkedOf g ≡ record { state = freshFor T; verdict = check T }
+  pub hands-out : check T ≡ fine → Handed ((checkedOf g) .state)
+
+abbrev pub AnswersEvery : Type 0
+AnswersEvery = (T : Table) (g : TaskTable) → CopyOf T g → Answered T g
 
 -- a refused call changes nothing in the state
 abbrev pub RefusedUnchanged : Type 0
@@ -65,7 +81,11 @@ abbrev pub RunsAsRuled : Type 0
 RunsAsRuled = (T : Table) → check T ≡ fine → (calls : List Call) → Runs T calls
 
 pub record Claims : Type 0 where
+  -- nothing of a head is lost in its state
   pub reads-back : ReadsBack
-  pub hands-out : HandsOut
+  -- the check answers every table
+  pub answers-every : AnswersEvery
+  -- demand 1, the calls' part
   pub refused-unchanged : RefusedUnchanged
+  -- demands 2 and 3, for whole runs
   pub runs-as-ruled : RunsAsRuled

@@ -15,13 +15,16 @@ use Rattle.rules.specs.Statement.{releasedOf}
 use Rattle.table.specs.declared.TaskTable.{TaskTable}
 use Rattle.table.specs.Lines.{packed, linesIn, given}
 use Rattle.jobs.specs.Listed.{view, pack}
-use Rattle.jobs.specs.Kept.{kept}
 use Rattle.monitor.specs.Tallies.{counts}
 use Rattle.scheduler.specs.declared.State.{State}
 use Rattle.scheduler.specs.declared.Checked.{Checked}
 use Rattle.scheduler.specs.declared.Stepped.{Stepped}
 
 -- ---- how the rule-book's table and head are kept
+
+-- a job without its activation tick, which is its deadline less its task's relative deadline, and without its mark, which the last accepted tick tells
+abbrev pub kept : Job → Entry
+kept j = record { due = j .due; task = j .task; phase = j .phase }
 
 unfoldable pub stateOf : Table → Head → State
 stateOf T h =
@@ -38,8 +41,8 @@ abbrev pub tableOf : State → Table
 tableOf s = record { lines = linesIn (s .table) }
 
 -- a job was activated its relative deadline before it is due, and was reported if it was late at the last accepted call
-abbrev pub jobOf : Table → Tick → Entry → Job
-jobOf T last x =
+abbrev pub jobBack : Table → Tick → Entry → Job
+jobBack T last x =
     record {
       task = x .task;
       since = record { 0 = x .due .0 - (deadlineOf T (x .task)) .0 };
@@ -49,7 +52,7 @@ jobOf T last x =
     }
 
 abbrev pub jobsOf : State → List Job
-jobsOf s = map (jobOf (tableOf s) (s .last)) (view (s .list))
+jobsOf s = map (jobBack (tableOf s) (s .last)) (view (s .list))
 
 -- the kernel's ready queue is the released jobs, from back to front
 abbrev pub boardOf : State → Board

@@ -5,7 +5,7 @@ use mathlib.Core.List.{List, [], _∷_}
 use lib.Dec.{leb, eqb}
 use lib.ListN.{drop}
 use Rattle.rules.specs.declared.Tick.{Tick}
-use Rattle.rules.specs.declared.Job.{Job}
+use Rattle.rules.specs.declared.Job.{Job as Entry}
 use Rattle.rules.specs.declared.Phase.{Phase}
 use Rattle.rules.specs.declared.Phase.the-variants.{Delayed, Released}
 use Rattle.rules.specs.declared.KernelCall.{KernelCall}
@@ -28,14 +28,17 @@ use Rattle.scheduler.specs.declared.Stepped.{Stepped}
 use Rattle.scheduler.specs.declared.Activation.{Activation}
 use Rattle.scheduler.specs.declared.Change.{Change}
 
+-- no job; tick, counts and greatest responses 0
 abbrev pub freshOf : TaskTable → State
 freshOf t = record { table = t; last = record { 0 = 0 }; list = pack []; monitor = counts noTallies }
 
 -- ---- the refusals
 
+-- an activation of task n: the limit of its line, and when it would be due
 unfoldable pub askedOf : TaskTable → Tick → ℕ → Activation
 askedOf t at n = record { at = at; task = n; limit = (lineAt (t .lines) n) .limit; due = sum at ((lineAt (t .lines) n) .deadline) }
 
+-- the rows of activate, terminate and chain; the first job is the one that ends
 unfoldable pub activateRefusal : Tick → ℕ → JobList → Activation → ℕ
 activateRefusal last lines l new =
     8 if badTick last (new .at)
@@ -59,13 +62,16 @@ chainRefusal last lines l new =
 
 -- ---- what moves
 
-unfoldable pub choiceIn : List Job → Choice
+-- the first job runs
+unfoldable pub choiceIn : List Entry → Choice
 choiceIn [] = Idle
 choiceIn (x ∷ xs) = Runs (x .task) (x .due)
 
-abbrev pub jobAs : ℕ → Tick → Phase → Job
+-- a new job
+abbrev pub jobAs : ℕ → Tick → Phase → Entry
 jobAs n due p = record { due = due; task = n; phase = p }
 
+-- activate: a new job that is first is released, by ActivateTask
 abbrev pub entryPhase : Bool → Phase
 entryPhase true = Released
 entryPhase false = Delayed
@@ -74,24 +80,26 @@ abbrev pub entryCall : Bool → ℕ → KernelCall
 entryCall true n = ActivateTask n
 entryCall false n = NoCall
 
-abbrev pub enteredAs : ℕ → Tick → List Job → Bool → Change
+abbrev pub enteredAs : ℕ → Tick → List Entry → Bool → Change
 enteredAs n due xs f = record { list = pack (insertDue (jobAs n due (entryPhase f)) xs); call = entryCall f n }
 
-unfoldable pub enteredIn : ℕ → Tick → List Job → Change
+unfoldable pub enteredIn : ℕ → Tick → List Entry → Change
 enteredIn n due xs = enteredAs n due xs (isFirstIn (jobAs n due Delayed) xs)
 
+-- the running job has left: the new first job is released by ChainTask, if it is delayed; otherwise TerminateTask
 abbrev pub settleAs : Phase → ℕ → KernelCall
 settleAs Delayed n = ChainTask n
 settleAs Released n = TerminateTask
 
-unfoldable pub settleCall : List Job → KernelCall
+unfoldable pub settleCall : List Entry → KernelCall
 settleCall [] = TerminateTask
 settleCall (x ∷ xs) = settleAs (x .phase) (x .task)
 
-unfoldable pub settledIn : List Job → Change
+unfoldable pub settledIn : List Entry → Change
 settledIn xs = record { list = pack (releaseFirst xs); call = settleCall xs }
 
-unfoldable pub chainedIn : ℕ → Tick → List Job → Change
+-- chain: the new job is inserted, then as for terminate
+unfoldable pub chainedIn : ℕ → Tick → List Entry → Change
 chainedIn n due xs = settledIn (insertDue (jobAs n due Delayed) xs)
 
 -- ---- what is counted
@@ -100,19 +108,21 @@ chainedIn n due xs = settledIn (insertDue (jobAs n due Delayed) xs)
 pub record Short (t : TaskTable) : Type 0 where
   pub deadlines : (n : ℕ) → (lineAt (t .lines) n) .deadline .0 ≤ 1000000000
 
-unfoldable pub responseIn : TaskTable → Job → Tick → ℕ
+-- the response of a job that ends at a tick
+unfoldable pub responseIn : TaskTable → Entry → Tick → ℕ
 responseIn t x at = responseBy at (x .due) ((lineAt (t .lines) (x .task)) .deadline)
 
 -- late jobs are counted
-unfoldable pub reported : Late → Monitor → Monitor
-reported l c = counts (withLate (tasksOf l) (c .tallies))
+unfoldable pub lateCounted : Late → Monitor → Monitor
+lateCounted l c = counts (withLate (tasksOf l) (c .tallies))
 
 -- and then the first job, which ended
-unfoldable pub talliedIn : TaskTable → List Job → Tick → Monitor → Monitor
+unfoldable pub talliedIn : TaskTable → List Entry → Tick → Monitor → Monitor
 talliedIn t xs at c = counts (onTask (firstIn xs .task) (endedMore (responseIn t (firstIn xs) at)) (c .tallies))
 
 -- ---- the whole
 
+-- a refused call: number k, the unchanged running job, no kernel call, no late job
 unfoldable pub refusedOf : State → ℕ → Stepped
 refusedOf s k =
     record {
@@ -120,6 +130,7 @@ refusedOf s k =
       answer = record { result = k; running = choiceIn (view (s .list)); call = NoCall; late = lateIn [] };
     }
 
+-- an accepted call: late jobs l, counts c, and the list and kernel call of m
 unfoldable pub acceptedOf : TaskTable → Tick → Late → Monitor → Change → Stepped
 acceptedOf t at l c m =
     record {

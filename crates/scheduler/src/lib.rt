@@ -2,19 +2,20 @@
 ghost use mathlib.Core.Path.{_≡_};
 ghost use Prim.Native.Nat.{_≤_, _<_};
 ghost use Rattle.rules.specs.declared.Call.the-variants.{Wait, Activate, Terminate, Chain};
-ghost use Rattle.jobs.specs.Listed.{places, view, Shaped, Sorted};
+ghost use Rattle.jobs.specs.Listed.{view, Shaped};
+ghost use Rattle.rules.specs.Words.{places};
 ghost use Rattle.rules.specs.Table.{greatest};
-ghost use Rattle.scheduler.specs.Steps.{freshOf, choiceIn, askedOf, activateRefusal, terminateRefusal, chainRefusal, entryPhase, entryCall, enteredIn, settleCall, settledIn, chainedIn, Short, responseIn, reported, talliedIn, refusedOf, acceptedOf};
+ghost use Rattle.scheduler.specs.Steps.{freshOf, choiceIn, askedOf, activateRefusal, terminateRefusal, chainRefusal, entryPhase, entryCall, enteredIn, settleCall, settledIn, chainedIn, Short, responseIn, lateCounted, talliedIn, refusedOf, acceptedOf};
 ghost use Rattle.scheduler.specs.State.{Handed, HandedOut, stepOf, checkedOf};
 ghost use Rattle.scheduler.specs.Claims.{Claims};
 use jobs::JobList;
-use jobs::PLACES;
 use monitor::Monitor;
 use rules::Answer;
 use rules::Choice;
 use rules::Job;
 use rules::KernelCall;
 use rules::Late;
+use rules::PLACES;
 use rules::Phase;
 use rules::Tick;
 use rules::Verdict;
@@ -258,7 +259,7 @@ fn entry_phase(first: bool) -> Phase
     Phase::Delayed
 }
 
-// It is released by ActivateTask.
+// The kernel call of an activation: ActivateTask if the new job is first, otherwise none.
 fn entry_call(first: bool, task: u8) -> KernelCall
     ensures { λ r. ⌜ r ≡ entryCall first task ⌝ }
 {
@@ -342,7 +343,7 @@ fn response_of(table: TaskTable, job: Job, at: Tick) -> u64
 // Late jobs are counted, then the first job, which ended.
 fn tallied(table: TaskTable, list: JobList, monitor: Monitor, at: Tick, late: Late) -> Monitor
     requires { ⌜ Shaped list × Short table × (at .0 ≤ greatest .0) ⌝ }
-    ensures { λ r. ⌜ r ≡ talliedIn table (view list) at (reported late monitor) ⌝ }
+    ensures { λ r. ⌜ r ≡ talliedIn table (view list) at (lateCounted late monitor) ⌝ }
 {
     let job = jobs::first(list);
     let response = response_of(table, job, at);

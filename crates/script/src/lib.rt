@@ -3,9 +3,9 @@ ghost use Prim.Native.Nat.{_≤_};
 ghost use lib.ListN.{length};
 use rules::Call;
 use rules::Line;
+use rules::PLACES;
 use rules::Span;
 use rules::Tick;
-use table::PLACES;
 use table::TaskTable;
 
 // ---- numbers

@@ -13,12 +13,12 @@ use Rattle.rules.specs.declared.Line.{Line}
 use Rattle.rules.specs.declared.Named.{Named}
 use Rattle.rules.specs.declared.Named.the-variants.{NoneNamed, TheLine, BothLines}
 use Rattle.rules.specs.declared.Verdict.{Verdict}
-use Rattle.rules.specs.Words.{_if_else_, Within, within}
+use Rattle.rules.specs.Words.{_if_else_, Within, within, places}
 use Rattle.rules.specs.Statement.{row-1}
 use Rattle.rules.specs.Table.{DeadlineInRange, LimitInRange, size, noLine, limits, verdict, fine, _then_, refuse, rangesFrom, breaks, pairsWith, pairsFrom, check}
 use Rattle.rules.proofs.Bools.{within-test, by-not}
 use Rattle.rules.proofs.Checked.{check-exact}
-use Rattle.table.specs.Lines.{places, packed, lineAt, linesIn, given, lineRefusal}
+use Rattle.table.specs.Lines.{packed, lineAt, linesIn, given, lineRefusal}
 use Rattle.table.specs.declared.TaskTable.{TaskTable}
 
 -- ---- verdicts one behind the other

@@ -4,9 +4,10 @@ use mathlib.Core.Path.{_≡_, refl}
 use mathlib.Core.List.{List, [], _∷_, _++_}
 use lib.ListN.{length, getD, replicate}
 use lib.Seq.{take-append-seam}
+use Rattle.rules.specs.Words.{places}
 use Rattle.rules.specs.declared.Line.{Line}
 use Rattle.rules.specs.Table.{noLine}
-use Rattle.table.specs.Lines.{places, packed, lineAt, linesIn}
+use Rattle.table.specs.Lines.{packed, lineAt, linesIn}
 
 blanks-behind : (ls : List Line) (k n : ℕ) → getD (ls ++ replicate k noLine) n noLine ≡ getD ls n noLine
 blanks-behind [] zero n = refl
@@ -24,3 +25,7 @@ kept-line ls n = blanks-behind ls (places - length ls) n
 pub kept-lines : (ls : List Line) → linesIn (packed ls) ≡ ls
 unfolding packed
 kept-lines ls = take-append-seam ls (replicate (places - length ls) noLine)
+
+pub count-packed : (ls : List Line) → packed ls .count ≡ length ls
+unfolding packed
+count-packed ls = refl

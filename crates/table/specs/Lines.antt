@@ -1,22 +1,18 @@
--- How a task table is kept by value. Assumes nothing.
+-- Document 01, "The task table": how a table is kept by value. Assumes nothing.
 use Prim.Native.Nat.{ℕ, _-_}
 use mathlib.Core.Bool.{not}
 use mathlib.Core.List.{List, _++_}
 use lib.ListN.{length, take, replicate, getD}
 use Rattle.rules.specs.declared.Line.{Line}
-use Rattle.rules.specs.Words.{_if_else_, within}
+use Rattle.rules.specs.Words.{_if_else_, places, within}
 use Rattle.rules.specs.Table.{Table, noLine}
 use Rattle.table.specs.declared.TaskTable.{TaskTable}
-
--- how many lines are kept
-abbrev pub places : ℕ
-places = 32
 
 -- these lines, and blank ones behind them
 unfoldable pub packed : List Line → TaskTable
 packed ls = record { lines = ls ++ replicate (places - length ls) noLine; count = length ls }
 
--- the line of a task; a blank one where there is none
+-- the line at a task's place; a blank one where there is none
 abbrev pub lineAt : List Line → ℕ → Line
 lineAt lines n = getD lines n noLine
 

@@ -3,18 +3,17 @@ ghost use mathlib.Core.Path.{_≡_};
 ghost use mathlib.Core.Bool.{_||_};
 ghost use mathlib.Core.List.{[]};
 ghost use Prim.Native.Nat.{_≤_};
+ghost use Rattle.rules.specs.Words.{places};
 ghost use Rattle.rules.specs.Table.{noLine, fine, breaks, check, rangesFrom, limits, pairsFrom};
-ghost use Rattle.table.specs.Lines.{places, packed, lineAt, given, linesIn, lineRefusal};
+ghost use Rattle.table.specs.Lines.{packed, lineAt, given, linesIn, lineRefusal};
 use rules::Line;
 use rules::Named;
+use rules::PLACES;
 use rules::Span;
 use rules::Verdict;
 
-// How many lines a table holds at most, and what the limits may add up to.
-pub const PLACES: usize = 32;
-
 // The longest relative deadline.
-pub const LONGEST: u64 = 1000000000;
+const LONGEST: u64 = 1000000000;
 
 // The first 32 lines, and how many there are. Places at and past the count are blank in a table that is kept.
 pub struct TaskTable {
@@ -32,7 +31,7 @@ fn blank() -> Line
     }
 }
 
-// The line of a task; a blank one where it has none.
+// The line at a task's place. Past the last line of a table that is kept, and past the places, it is blank.
 pub fn line_of(table: TaskTable, task: u8) -> Line
     ensures { λ r. ⌜ r ≡ lineAt (table .lines) task ⌝ }
 {

@@ -1,7 +1,7 @@
 // Ticks: the one sum of a tick and a relative deadline, and what is asked of ticks.
 ghost use mathlib.Core.Path.{_≡_};
 ghost use Prim.Native.Nat.{_+_, _≤_};
-ghost use Rattle.rules.specs.Table.{greatest};
+ghost use Rattle.rules.specs.Table.{greatest, plus};
 ghost use Rattle.rules.specs.Calls.{badTick};
 ghost use Rattle.rules.specs.Late.{isPast};
 ghost use Rattle.ticks.specs.Ticks.{sum, isBeyond, responseBy};
@@ -12,16 +12,16 @@ use rules::Tick;
 pub const GREATEST: u64 = 4611686018427387903;
 
 // The tick after the greatest, which no call may have.
-pub const BEYOND: u64 = GREATEST + 1;
+const BEYOND: u64 = GREATEST + 1;
 
 // A tick and a relative deadline, added: the one place where the two meet. Past the greatest tick it gives the tick after that.
 pub fn plus(at: Tick, deadline: Span) -> Tick
     ensures { λ r. ⌜ r ≡ sum at deadline ⌝ }
 {
-    if GREATEST < deadline.0 {
+    if GREATEST < at.0 {
         return Tick(BEYOND);
     }
-    if GREATEST - deadline.0 < at.0 {
+    if GREATEST - at.0 < deadline.0 {
         return Tick(BEYOND);
     }
     Tick(at.0 + deadline.0)
@@ -51,9 +51,10 @@ pub fn is_past(at: Tick, due: Tick) -> bool
     due.0 < at.0
 }
 
-// The response of a job that ends at a tick: its relative deadline, and how long after its deadline it ends (or less, how long before).
+// The response of a job that ends at a tick: its relative deadline, and how long after its deadline it ends (or less how long before it).
+// What it asks keeps the numbers within 64 bits.
 pub fn response(at: Tick, due: Tick, deadline: Span) -> u64
-    requires { ⌜ at .0 + deadline .0 ≤ greatest .0 + greatest .0 ⌝ }
+    requires { ⌜ (plus at deadline) .0 ≤ greatest .0 + greatest .0 ⌝ }
     ensures { λ r. ⌜ r ≡ responseBy at due deadline ⌝ }
 {
     if due.0 <= at.0 {

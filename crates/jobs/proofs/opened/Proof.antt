@@ -4,7 +4,8 @@ use mathlib.Core.Path.{_≡_, refl, sym, _∙_}
 use Prim.Native.Nat.{_-_, _≤_}
 use native.Mathlib.Omega.{arith}
 use lib.ListN.{length, length-set}
-use Rattle.jobs.specs.Listed.{places, openAt}
+use Rattle.rules.specs.Words.{places}
+use Rattle.jobs.specs.Inside.{openAt}
 use Rattle.jobs.proofs.Shifts.{open-step, open-end}
 use Rattle.jobs.proofs.opened.Statement.{statement}
 use Rattle.jobs.proofs.opened.Tie as tie

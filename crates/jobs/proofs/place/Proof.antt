@@ -4,7 +4,8 @@ use mathlib.Core.Path.{_≡_, sym, ap, _∙_}
 use Prim.Native.Nat.{_+_, _-_, _≤_}
 use native.Mathlib.Omega.{arith}
 use lib.ListN.{drop}
-use Rattle.jobs.specs.Listed.{placeOf, view}
+use Rattle.jobs.specs.Listed.{view}
+use Rattle.jobs.specs.Inside.{placeOf}
 use Rattle.jobs.proofs.Laid.{view-step, view-end}
 use Rattle.jobs.proofs.Scans.{place-here, place-next, place-none}
 use Rattle.jobs.proofs.place.Statement.{statement}

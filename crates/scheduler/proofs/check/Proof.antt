@@ -1,7 +1,7 @@
 -- `scheduler::check` meets its contract. Assumes nothing.
 use mathlib.Core.Path.{_≡_, _∙_}
 use lib.ListN.{length, length-map}
-use Rattle.table.specs.Lines.{places}
+use Rattle.rules.specs.Words.{places}
 use Rattle.scheduler.proofs.Checking.{checked-refused, checked-accepted, checked-few, checked-lines}
 use borrow.Author.Needs.{needs}
 use Rattle.scheduler.proofs.check.Statement.{statement}

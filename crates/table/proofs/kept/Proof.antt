@@ -5,8 +5,8 @@ use mathlib.Core.List.{_++_}
 use lib.ListN.{length-map, length-set, length, take, replicate}
 use native.Mathlib.Omega.{arith}
 use borrow.Author.Needs.{needs}
+use Rattle.rules.specs.Words.{places}
 use Rattle.rules.specs.Table.{noLine}
-use Rattle.table.specs.Lines.{places}
 use Rattle.table.proofs.Laws.{blank-turn, blank-end, kept-is}
 use Rattle.table.proofs.kept.Statement.{statement}
 use Rattle.table.proofs.kept.Tie as tie

@@ -4,8 +4,9 @@ use mathlib.Core.Path.{_≡_}
 use lib.ListN.{length-map, length, drop}
 use native.Mathlib.Omega.{arith}
 use borrow.Author.Needs.{needs}
+use Rattle.rules.specs.Words.{places}
 use Rattle.rules.specs.Table.{limits}
-use Rattle.table.specs.Lines.{places, linesIn}
+use Rattle.table.specs.Lines.{linesIn}
 use Rattle.table.proofs.Laws.{limits-turn, limits-end}
 use Rattle.table.proofs.limit_sum.Statement.{statement}
 use Rattle.table.proofs.limit_sum.Tie as tie

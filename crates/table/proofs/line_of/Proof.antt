@@ -4,8 +4,8 @@ use mathlib.Core.Path.{_≡_, sym, _∙_}
 use lib.ListN.{length, length-map, List·getD-eq-default}
 use native.Mathlib.Omega.{arith}
 use borrow.Author.Needs.{needs}
+use Rattle.rules.specs.Words.{places}
 use Rattle.rules.specs.Table.{noLine}
-use Rattle.table.specs.Lines.{places}
 use Rattle.table.proofs.line_of.Statement.{statement}
 use Rattle.table.proofs.line_of.Tie as tie
 

@@ -4,8 +4,9 @@ use mathlib.Core.Path.{_≡_, refl, sym, _∙_}
 use lib.ListN.{length-map, length, drop}
 use native.Mathlib.Omega.{arith}
 use borrow.Author.Needs.{needs}
+use Rattle.rules.specs.Words.{places}
 use Rattle.rules.specs.Table.{fine, pairsWith, pairsFrom, _then_}
-use Rattle.table.specs.Lines.{places, linesIn}
+use Rattle.table.specs.Lines.{linesIn}
 use Rattle.table.proofs.Laws.{pairs-enter, pairs-turn, pairs-stop, pairs-leave, pairs-end}
 use Rattle.table.proofs.pairs.Statement.{statement}
 use Rattle.table.proofs.pairs.Tie as tie
