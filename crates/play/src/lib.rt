@@ -1,6 +1,4 @@
 // Runs of calls: a table and calls in words, each printed with its answer.
-ghost use Prim.Native.Nat.{_≤_};
-ghost use lib.ListN.{length};
 ghost use Rattle.jobs.specs.Listed.{Shaped};
 ghost use Rattle.scheduler.specs.State.{Handed};
 use jobs::JobList;
