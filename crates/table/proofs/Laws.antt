@@ -13,7 +13,7 @@ use Rattle.rules.specs.declared.Line.{Line}
 use Rattle.rules.specs.declared.Named.{Named}
 use Rattle.rules.specs.declared.Named.the-variants.{NoneNamed, TheLine, BothLines}
 use Rattle.rules.specs.declared.Verdict.{Verdict}
-use Rattle.rules.specs.Words.{_if_else_, Within, within, places}
+use Rattle.rules.specs.Words.{Within, within, places}
 use Rattle.rules.specs.Statement.{row-1}
 use Rattle.rules.specs.Table.{DeadlineInRange, LimitInRange, size, noLine, limits, verdict, fine, _then_, refuse, rangesFrom, breaks, pairsWith, pairsFrom, check}
 use Rattle.rules.proofs.Bools.{within-test, by-not}
@@ -57,24 +57,28 @@ outside lo hi x h = ap not (by-not (within lo hi x) (λ e. h (within-test lo hi 
 inside : (lo hi x : ℕ) → Within lo hi x → not (within lo hi x) ≡ false
 inside lo hi x w = ap not (within-test lo hi x .1 w)
 
+-- a line's number, by its two tests
+abbrev lineBy : Bool → Bool → ℕ
+lineBy s t = (refuse 2 (TheLine 0) s then refuse 3 (TheLine 0) t then fine) .number
+
 -- the deadline's test comes first
 pub refusal-2 : (x : Line) → (DeadlineInRange x → ⊥) → lineRefusal x ≡ 2
-unfolding lineRefusal _if_else_
-refusal-2 x h = rw (outside 1 1000000000 (x .deadline .0) h)
+unfolding lineRefusal _then_ refuse
+refusal-2 x h = ap (λ s. lineBy s (not (within 1 32 (x .limit)))) (outside 1 1000000000 (x .deadline .0) h)
 
 -- then the limit's
 pub refusal-3 : (x : Line) → DeadlineInRange x → (LimitInRange x → ⊥) → lineRefusal x ≡ 3
-unfolding lineRefusal _if_else_
-refusal-3 x d h = rw (inside 1 1000000000 (x .deadline .0) d, outside 1 32 (x .limit) h)
+unfolding lineRefusal _then_ refuse
+refusal-3 x d h = λ i. lineBy (inside 1 1000000000 (x .deadline .0) d i) (outside 1 32 (x .limit) h i)
 
 -- a line that passes both is not refused
 pub refusal-0 : (x : Line) → DeadlineInRange x → LimitInRange x → lineRefusal x ≡ 0
-unfolding lineRefusal _if_else_
-refusal-0 x d l = rw (inside 1 1000000000 (x .deadline .0) d, inside 1 32 (x .limit) l)
+unfolding lineRefusal _then_ refuse
+refusal-0 x d l = λ i. lineBy (inside 1 1000000000 (x .deadline .0) d i) (inside 1 32 (x .limit) l i)
 
 -- the two tests of a line are one refusal
-line-told : (s t : Bool) (ls : Named) (w : Verdict) → (refuse 2 ls s then refuse 3 ls t then w) ≡ (verdict (2 if s else 3 if t else 0) ls then w)
-unfolding _then_ refuse _if_else_
+line-told : (s t : Bool) (ls : Named) (w : Verdict) → (refuse 2 ls s then refuse 3 ls t then w) ≡ (verdict (lineBy s t) ls then w)
+unfolding _then_ refuse
 line-told true t ls w = refl
 line-told false true ls w = refl
 line-told false false ls w = refl

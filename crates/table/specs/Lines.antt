@@ -1,11 +1,10 @@
 -- Document 01, "The task table": how a table is kept by value. Assumes nothing.
 use Prim.Native.Nat.{ℕ, _-_}
-use mathlib.Core.Bool.{not}
-use mathlib.Core.List.{List, _++_}
+use mathlib.Core.List.{List, [], _∷_, _++_}
 use lib.ListN.{length, take, replicate, getD}
 use Rattle.rules.specs.declared.Line.{Line}
-use Rattle.rules.specs.Words.{_if_else_, places, within}
-use Rattle.rules.specs.Table.{Table, noLine}
+use Rattle.rules.specs.Words.{places}
+use Rattle.rules.specs.Table.{Table, noLine, rangesFrom}
 use Rattle.table.specs.declared.TaskTable.{TaskTable}
 
 -- these lines, and blank ones behind them
@@ -24,6 +23,6 @@ linesIn t = take (t .count) (t .lines)
 abbrev pub given : TaskTable → Table
 given t = record { lines = linesIn t ++ replicate (t .count - places) noLine }
 
--- 2 or 3 of a line
+-- 2 or 3 of a line: the check's number for it alone
 unfoldable pub lineRefusal : Line → ℕ
-lineRefusal x = 2 if not (within 1 1000000000 (x .deadline .0)) else 3 if not (within 1 32 (x .limit)) else 0
+lineRefusal x = (rangesFrom 0 (x ∷ [])) .number
