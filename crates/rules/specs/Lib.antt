@@ -9,6 +9,7 @@ pub mod Layer
 pub mod Counts
 pub mod Plain
 pub mod Number
+pub mod Tape
 pub mod Run
 pub mod History
 pub mod Statement

@@ -92,6 +92,25 @@ pub enum NumberRead {
     Refused(u8),
 }
 
+// What reading a record on tape gives: the call with its tick and the place after it, the end of the tape, or the refusal's number.
+pub enum RecordRead {
+    Record { call: Call, next: usize },
+    End,
+    Refused(u8),
+}
+
+// What reading a line of the table on tape gives: the line and the place after it, or the refusal's number.
+pub enum LineRead {
+    Whole { line: Line, next: usize },
+    Refused(u8),
+}
+
+// What writing to a buffer gives: the count of the bytes written, or the refusal's number.
+pub enum Written {
+    Count(usize),
+    Refused(u8),
+}
+
 // Does nothing. Its contract is all of specs/Claims, so that a claim without a proof fails the check.
 pub fn rules_hold()
     ensures { λ r. ⌜ Claims ⌝ }

@@ -1,0 +1,4 @@
+pub mod Groups
+pub mod Round
+pub mod Turns
+pub mod Writes

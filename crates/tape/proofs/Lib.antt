@@ -1,0 +1,7 @@
+pub mod Numbers
+pub mod Records
+pub mod Tables
+pub mod Tapes
+pub mod Sizes
+pub mod Kept
+pub mod Claims
