@@ -5,13 +5,16 @@ use Rattle.rules.specs.Table.{_then_, refuse}
 use Rattle.rules.specs.Jobs.{keyAt, before}
 use Rattle.rules.specs.Calls.{refusal}
 use Rattle.rules.specs.Late.{isPast}
-use Rattle.rules.specs.Number.{joined, restOf, numberOf}
+use Rattle.rules.specs.Number.{groupsIn, joined, restOf, numberOf, boundedAt}
+use Rattle.rules.specs.Tape.{recordBytes, lineBytes, linesBytes, tableBytes, recordsBytes, tapeOf, callAt, ticksAt, recordAt, lineAt, linesAt, tableAt, recordsIn, readTape}
 use Rattle.rules.specs.Cases.{Cases}
 
 pub cases : Cases
-unfolding keyAt before refusal isPast _if_else_ _then_ refuse joined restOf numberOf
+unfolding keyAt before refusal isPast _if_else_ _then_ refuse groupsIn joined restOf numberOf boundedAt recordBytes lineBytes linesBytes tableBytes recordsBytes tapeOf callAt ticksAt recordAt lineAt linesAt tableAt recordsIn readTape
 cases =
     record {
+      printed-written = refl;
+      printed-read = refl;
       printed-table = refl;
       printed-run = refl;
       printed-counts = refl;
@@ -41,11 +44,17 @@ cases =
       j-late-counts = refl;
       k-not-shortest = refl;
       k-cut-off = refl;
+      k-writes-127 = refl;
+      k-writes-128 = refl;
+      k-writes-300 = refl;
       k-127 = refl;
       k-128 = refl;
       k-300 = refl;
       k-nine-groups = refl;
       k-tenth-group = refl;
+      k-kind-first = refl;
+      k-sum-first = refl;
+      k-too-short = refl;
       l-fits = refl;
       l-too-many = refl;
       ten-refused = refl;

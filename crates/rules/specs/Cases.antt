@@ -18,8 +18,10 @@ use Rattle.rules.specs.declared.Choice.the-variants.{Idle, Runs}
 use Rattle.rules.specs.declared.Answer.{Answer}
 use Rattle.rules.specs.declared.Tally.{Tally}
 use Rattle.rules.specs.declared.NumberRead.the-variants.{Value, Refused}
-use Rattle.rules.specs.Number.{numberAt}
-use Rattle.rules.specs.Table.{Table, verdict, check}
+use Rattle.rules.specs.declared.RecordRead.{RecordRead}
+use Rattle.rules.specs.Number.{bytesOf, numberAt}
+use Rattle.rules.specs.Tape.{tapeOf, recordAt, readTape, whole, stored}
+use Rattle.rules.specs.Table.{Table, greatest, verdict, check}
 use Rattle.rules.specs.Jobs.{Job}
 use Rattle.rules.specs.Layer.{fresh, result, choice, answer, inPlaces}
 use Rattle.rules.specs.Plain.{start, plainRun, plainChoice}
@@ -77,7 +79,16 @@ tableOver = table (line 5 2 32 ∷ line 5 1 32 ∷ [])
 abbrev pub full : List Call
 full = replicate 32 (Activate (at 0) 0)
 
+-- the input of the printed run, in hexadecimal
+abbrev pub printedTape : List ℕ
+printedTape =
+    0x03 ∷ 0x03 ∷ 0x0C ∷ 0x02 ∷ 0x05 ∷ 0x0B ∷ 0x02 ∷ 0x05 ∷ 0x0A ∷ 0x02
+    ∷ 0x01 ∷ 0x00 ∷ 0x00 ∷ 0x01 ∷ 0x00 ∷ 0x02 ∷ 0x01 ∷ 0x00 ∷ 0x01 ∷ 0x02 ∷ 0x01 ∷ 0x01 ∷ 0x02 ∷ 0x00
+    ∷ 0x02 ∷ 0x00 ∷ 0x02 ∷ 0x01 ∷ 0x00 ∷ 0x03 ∷ 0x02 ∷ 0x01 ∷ []
+
 pub record Cases : Type 0 where
+  pub printed-written : tapeOf tableP printed ≡ printedTape
+  pub printed-read : readTape printedTape ≡ whole tableP printed
   pub printed-table : check tableP ≡ verdict 0 NoneNamed
   pub printed-run :
       answers tableP fresh printed
@@ -124,6 +135,9 @@ pub record Cases : Type 0 where
   pub j-late-counts : take 1 ((headRun tableP freshHead (Activate (at 3) 0 ∷ Terminate (at 7) ∷ [])) .tallies) ≡ tally 1 1 4 ∷ []
   pub k-not-shortest : numberAt (0x80 ∷ 0x00 ∷ []) 0 ≡ Refused 21
   pub k-cut-off : numberAt (0x80 ∷ []) 0 ≡ Refused 20
+  pub k-writes-127 : bytesOf 127 ≡ 0x7F ∷ []
+  pub k-writes-128 : bytesOf 128 ≡ 0x80 ∷ 0x01 ∷ []
+  pub k-writes-300 : bytesOf 300 ≡ 0xAC ∷ 0x02 ∷ []
   pub k-127 : numberAt (0x7F ∷ []) 0 ≡ Value 127 1
   pub k-128 : numberAt (0x80 ∷ 0x01 ∷ []) 0 ≡ Value 128 2
   pub k-300 : numberAt (0xAC ∷ 0x02 ∷ []) 0 ≡ Value 300 2
@@ -131,6 +145,9 @@ pub record Cases : Type 0 where
       numberAt (0xFF ∷ 0xFF ∷ 0xFF ∷ 0xFF ∷ 0xFF ∷ 0xFF ∷ 0xFF ∷ 0xFF ∷ 0x3F ∷ []) 0 ≡ Value 4611686018427387903 9
   pub k-tenth-group :
       numberAt (0xFF ∷ 0xFF ∷ 0xFF ∷ 0xFF ∷ 0xFF ∷ 0xFF ∷ 0xFF ∷ 0xFF ∷ 0xBF ∷ 0x01 ∷ []) 0 ≡ Refused 23
+  pub k-kind-first : recordAt (0x04 ∷ []) 0 (at 0) ≡ RecordRead.Refused 22
+  pub k-sum-first : recordAt (0x01 ∷ 0x01 ∷ []) 0 greatest ≡ RecordRead.Refused 23
+  pub k-too-short : stored false (bytesOf 300) (0xEE ∷ []) ≡ 0xEE ∷ []
   pub l-fits : check (table (line 3 2 16 ∷ line 5 1 16 ∷ [])) ≡ verdict 0 NoneNamed
   pub l-too-many : check (table (line 3 2 16 ∷ line 5 1 17 ∷ [])) ≡ verdict 4 NoneNamed
   pub ten-refused : check tableOver ≡ verdict 4 NoneNamed
