@@ -4,4 +4,5 @@ pub mod Tables
 pub mod Tapes
 pub mod Sizes
 pub mod Kept
+pub mod Handing
 pub mod Claims
