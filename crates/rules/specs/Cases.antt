@@ -1,7 +1,7 @@
 -- Document 01, "The program and one whole run" and "Errors a builder could fall into": the printed run and cases a to l, and number 10 on a table that the check refuses, as one statement. Assumes nothing.
 use Prim.Native.Nat.{ℕ}
 use mathlib.Core.Path.{_≡_}
-use mathlib.Core.Bool.{false}
+use mathlib.Core.Bool.{true, false}
 use mathlib.Core.List.{List, [], _∷_}
 use lib.ListN.{take, replicate}
 use Rattle.rules.specs.declared.Tick.{Tick}
@@ -19,8 +19,10 @@ use Rattle.rules.specs.declared.Answer.{Answer}
 use Rattle.rules.specs.declared.Tally.{Tally}
 use Rattle.rules.specs.declared.NumberRead.the-variants.{Value, Refused}
 use Rattle.rules.specs.declared.RecordRead.{RecordRead}
+use Rattle.rules.specs.declared.Written.{Written}
+use Rattle.rules.specs.declared.Written.the-variants.{Count}
 use Rattle.rules.specs.Number.{bytesOf, numberAt}
-use Rattle.rules.specs.Tape.{tapeOf, recordAt, readTape, whole, stored}
+use Rattle.rules.specs.Tape.{tapeOf, recordAt, readTape, whole, written, stored}
 use Rattle.rules.specs.Table.{Table, greatest, verdict, check}
 use Rattle.rules.specs.Jobs.{Job}
 use Rattle.rules.specs.Layer.{fresh, result, choice, answer, inPlaces}
@@ -147,7 +149,11 @@ pub record Cases : Type 0 where
       numberAt (0xFF ∷ 0xFF ∷ 0xFF ∷ 0xFF ∷ 0xFF ∷ 0xFF ∷ 0xFF ∷ 0xFF ∷ 0xBF ∷ 0x01 ∷ []) 0 ≡ Refused 23
   pub k-kind-first : recordAt (0x04 ∷ []) 0 (at 0) ≡ RecordRead.Refused 22
   pub k-sum-first : recordAt (0x01 ∷ 0x01 ∷ []) 0 greatest ≡ RecordRead.Refused 23
-  pub k-too-short : stored false (bytesOf 300) (0xEE ∷ []) ≡ 0xEE ∷ []
+  pub k-24-first : written true (bytesOf 300) 1 ≡ Written.Refused 24
+  pub k-too-short : written false (bytesOf 300) 1 ≡ Written.Refused 25
+  pub k-just-fits : written false (bytesOf 300) 2 ≡ Count 2
+  pub k-left-as-it-was : stored false (bytesOf 300) (0xEE ∷ []) ≡ 0xEE ∷ []
+  pub k-nothing-behind : stored false (bytesOf 300) (0xEE ∷ 0xEE ∷ 0xEE ∷ []) ≡ 0xAC ∷ 0x02 ∷ 0xEE ∷ []
   pub l-fits : check (table (line 3 2 16 ∷ line 5 1 16 ∷ [])) ≡ verdict 0 NoneNamed
   pub l-too-many : check (table (line 3 2 16 ∷ line 5 1 17 ∷ [])) ≡ verdict 4 NoneNamed
   pub ten-refused : check tableOver ≡ verdict 4 NoneNamed
