@@ -121,6 +121,15 @@ pub fn call_at(text: &[u8], from: usize) -> Call {
 
 // ---- tables
 
+// How many lines have a place here: as many as a table on tape has at most.
+const MOST: usize = 255;
+
+// Lines by their places, and how many there are.
+pub struct Lines {
+    pub lines: [Line; MOST],
+    pub count: usize,
+}
+
 // D, priority and limit of a line.
 fn line_at(text: &[u8], from: usize) -> Line {
     let d = number(text, from);
@@ -133,25 +142,25 @@ fn line_at(text: &[u8], from: usize) -> Line {
     }
 }
 
-// One more line; from 33 lines on nothing changes.
-fn with_line(table: TaskTable, line: Line) -> TaskTable {
-    let n = table.count;
-    if PLACES < n {
-        return table;
+// One more line; from 256 lines on nothing changes.
+fn with_line(told: Lines, line: Line) -> Lines {
+    let n = told.count;
+    if MOST < n {
+        return told;
     }
-    let mut lines = table.lines;
-    if n < PLACES {
+    let mut lines = told.lines;
+    if n < MOST {
         lines[n] = line;
     }
-    TaskTable {
+    Lines {
         lines,
         count: n + 1,
     }
 }
 
 // A line some times over.
-fn with_lines(table: TaskTable, line: Line, times: u64) -> TaskTable {
-    let mut out = table;
+fn with_lines(told: Lines, line: Line, times: u64) -> Lines {
+    let mut out = told;
     let mut i: u64 = 0;
     while i < times {
         out = with_line(out, line);
@@ -161,32 +170,52 @@ fn with_lines(table: TaskTable, line: Line, times: u64) -> TaskTable {
 }
 
 // '3 12 2': a line by its D, priority and limit; '32x 3 12 2': 32 such lines; words with no number behind them: none.
-fn with_entry(table: TaskTable, text: &[u8], from: usize) -> TaskTable {
+fn with_entry(told: Lines, text: &[u8], from: usize) -> Lines {
     if text.len() <= digit_from(text, from) {
-        return table;
+        return told;
     }
     let n = number(text, from);
     let next = n.next;
     if byte_at(text, next) == b'x' {
-        return with_lines(table, line_at(text, next), n.value);
+        return with_lines(told, line_at(text, next), n.value);
     }
-    with_line(table, line_at(text, from))
+    with_line(told, line_at(text, from))
+}
+
+fn no_line() -> Line {
+    Line {
+        deadline: Span(0),
+        priority: 0,
+        limit: 0,
+    }
 }
 
 // The lines of a text, with commas between them.
-pub fn table_of(text: &[u8]) -> TaskTable {
-    let mut table = TaskTable {
-        lines: [Line {
-            deadline: Span(0),
-            priority: 0,
-            limit: 0,
-        }; PLACES],
+pub fn lines_of(text: &[u8]) -> Lines {
+    let mut told = Lines {
+        lines: [no_line(); MOST],
         count: 0,
     };
     let mut i = 0;
     while i < text.len() {
-        table = with_entry(table, text, i);
+        told = with_entry(told, text, i);
         i = find(text, i, b',') + 1;
     }
-    table
+    told
+}
+
+// The lines of a text as a table: the first 32, and how many there are.
+pub fn table_of(text: &[u8]) -> TaskTable {
+    let told = lines_of(text);
+    let given = told.lines;
+    let mut lines = [no_line(); PLACES];
+    let mut i = 0;
+    while i < PLACES {
+        lines[i] = given[i];
+        i += 1;
+    }
+    TaskTable {
+        lines,
+        count: told.count,
+    }
 }

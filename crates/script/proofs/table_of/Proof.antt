@@ -1,24 +1,35 @@
 -- `script::table_of` meets its contract. Assumes nothing.
 use borrow.Author.Needs.{needs}
 use Prim.Native.Nat.{_-_}
-use lib.ListN.{length}
 use Rattle.script.proofs.table_of.Statement.{statement}
 use Rattle.script.proofs.table_of.Tie as tie
 
 abbrev Inv-loop : tie.InvT-loop
-Inv-loop text table₀ i₀ table i = Unit
+Inv-loop text told given lines₀ i₀ lines i = Unit
 
 abbrev μ-loop : tie.MeasureT-loop
-μ-loop text table₀ i₀ table i = length text - i
+μ-loop text told given lines₀ i₀ lines i = 32 - i
+
+lines-of-requires : tie.Need-lines-of-requires Inv-loop μ-loop
+lines-of-requires c κs = search needs
+
+no-line-requires : tie.Need-no-line-requires Inv-loop μ-loop
+no-line-requires c κs = search needs
 
 loop-holds : tie.Need-loop-holds Inv-loop μ-loop
 loop-holds c = search needs
 
-with-entry-requires : tie.Need-with-entry-requires Inv-loop μ-loop
-with-entry-requires c κs = search needs
+mul-lines : tie.Need-mul-lines Inv-loop μ-loop
+mul-lines c = search needs
 
-find-requires : tie.Need-find-requires Inv-loop μ-loop
-find-requires c κs = search needs
+array-copy-out-lines : tie.Need-array-copy-out-lines Inv-loop μ-loop
+array-copy-out-lines c = search needs
+
+mul-lines-2 : tie.Need-mul-lines-2 Inv-loop μ-loop
+mul-lines-2 c = search needs
+
+array-set-from-lines : tie.Need-array-set-from-lines Inv-loop μ-loop
+array-set-from-lines c = search needs
 
 add-i : tie.Need-add-i Inv-loop μ-loop
 add-i c = search needs
@@ -38,9 +49,13 @@ table-of-spec =
     (tie.spec
     Inv-loop
     μ-loop
+    lines-of-requires
+    no-line-requires
     loop-holds
-    with-entry-requires
-    find-requires
+    mul-lines
+    array-copy-out-lines
+    mul-lines-2
+    array-set-from-lines
     add-i
     loop-less
     loop-again
