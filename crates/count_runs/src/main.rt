@@ -1,14 +1,14 @@
 // The counts: they stand still at 4294967295, and the greatest response is kept. Nobody makes that many calls, so monitors are set close to it.
 use monitor::Monitor;
+use print::ROOM;
 use rules::Late;
 use rules::Tally;
-use show::WIDTH;
 
 fn one_more(count: u32) {
-    let mut out = [0u8; WIDTH];
-    let n = show::number(&mut out, 0, count as u64);
-    let n = show::words(&mut out, n, b" and one more -> ");
-    let n = show::number(&mut out, n, monitor::up(count) as u64);
+    let mut out = [0u8; ROOM];
+    let n = print::number(&mut out, 0, count as u64);
+    let n = print::words(&mut out, n, b" and one more -> ");
+    let n = print::number(&mut out, n, monitor::up(count) as u64);
     show::send(&mut out, n);
 }
 
@@ -37,11 +37,11 @@ fn shown(text: &[u8], monitor: Monitor) {
     let tallies = monitor.tallies;
     let first = tallies[0];
     let last = tallies[31];
-    let mut out = [0u8; WIDTH];
-    let n = show::words(&mut out, 0, text);
-    let n = show::words(&mut out, n, b" -> ");
+    let mut out = [0u8; ROOM];
+    let n = print::words(&mut out, 0, text);
+    let n = print::words(&mut out, n, b" -> ");
     let n = show::tally(&mut out, n, first);
-    let n = show::words(&mut out, n, b", ");
+    let n = print::words(&mut out, n, b", ");
     let n = show::tally(&mut out, n, last);
     show::send(&mut out, n);
 }

@@ -4,31 +4,29 @@ ghost use Rattle.scheduler.specs.State.{Handed};
 use jobs::JobList;
 use kernel::Found;
 use monitor::Monitor;
+use print::ROOM;
 use rules::Answer;
-use rules::Call;
 use rules::Choice;
 use rules::Job;
 use rules::Phase;
 use rules::Tick;
 use rules::Verdict;
 use scheduler::State;
-use scheduler::Stepped;
-use show::WIDTH;
 use table::TaskTable;
 
 // ---- the list
 
-fn phase(out: &mut [u8; WIDTH], at: usize, phase: Phase) -> usize {
+fn phase(out: &mut [u8; ROOM], at: usize, phase: Phase) -> usize {
     match phase {
-        Phase::Delayed => show::words(out, at, b" delayed"),
-        Phase::Released => show::words(out, at, b" released"),
+        Phase::Delayed => print::words(out, at, b" delayed"),
+        Phase::Released => print::words(out, at, b" released"),
     }
 }
 
 // A pending job: its task and deadline, and whether it is delayed or released.
-fn job(out: &mut [u8; WIDTH], at: usize, job: Job) -> usize {
-    let n = show::words(out, at, b", ");
-    let n = show::two(out, n, job.task as u64, job.due.0);
+fn job(out: &mut [u8; ROOM], at: usize, job: Job) -> usize {
+    let n = print::words(out, at, b", ");
+    let n = print::two(out, n, job.task as u64, job.due.0);
     let now = job.phase;
     phase(out, n, now)
 }
@@ -56,9 +54,9 @@ fn picked(list: JobList, table: TaskTable) -> Choice
 fn listed(list: JobList, last: Tick, choice: Choice) {
     let jobs = list.jobs;
     let count = list.count;
-    let mut out = [0u8; WIDTH];
-    let mut n = show::words(&mut out, 0, b"list -> last ");
-    n = show::number(&mut out, n, last.0);
+    let mut out = [0u8; ROOM];
+    let mut n = print::words(&mut out, 0, b"list -> last ");
+    n = print::number(&mut out, n, last.0);
     let mut i = 0;
     while i < count {
         if 32 <= i {
@@ -68,47 +66,26 @@ fn listed(list: JobList, last: Tick, choice: Choice) {
         n = job(&mut out, n, next);
         i += 1;
     }
-    n = show::words(&mut out, n, b"; kernel ");
-    n = show::running(&mut out, n, choice);
+    n = print::words(&mut out, n, b"; kernel ");
+    n = print::running(&mut out, n, choice);
     show::send(&mut out, n);
 }
 
 // ---- calls
 
-fn tick_of(call: Call) -> Tick {
-    match call {
-        Call::Wait(at) => at,
-        Call::Activate(at, _) => at,
-        Call::Terminate(at) => at,
-        Call::Chain(at, _) => at,
-    }
-}
-
-fn obey(s: State, call: Call) -> Stepped
-    requires { ⌜ Handed s ⌝ }
-    ensures { λ r. ⌜ Handed (r .state) ⌝ }
-{
-    match call {
-        Call::Wait(at) => scheduler::tick(s, at),
-        Call::Activate(at, task) => scheduler::activate(s, at, task),
-        Call::Terminate(at) => scheduler::terminate(s, at),
-        Call::Chain(at, task) => scheduler::chain(s, at, task),
-    }
-}
-
 // The words in front of an answer; none in a bare run.
-fn asked(out: &mut [u8; WIDTH], text: &[u8], bare: bool) -> usize {
+fn asked(out: &mut [u8; ROOM], text: &[u8], bare: bool) -> usize {
     if bare {
         return 0;
     }
-    let n = show::words(out, 0, text);
-    show::words(out, n, b" -> ")
+    let n = print::words(out, 0, text);
+    print::words(out, n, b" -> ")
 }
 
 fn told(text: &[u8], bare: bool, at: Tick, answer: Answer) {
-    let mut out = [0u8; WIDTH];
+    let mut out = [0u8; ROOM];
     let n = asked(&mut out, text, bare);
-    let n = show::answer(&mut out, n, at, answer);
+    let n = print::answer(&mut out, n, at, answer);
     show::send(&mut out, n);
 }
 
@@ -127,9 +104,9 @@ fn step(s: State, text: &[u8], bare: bool) -> State
         return s;
     }
     let call = script::call_at(text, 0);
-    let r = obey(s, call);
+    let r = scheduler::call(s, call);
     let answer = r.answer;
-    told(text, bare, tick_of(call), answer);
+    told(text, bare, records::tick_of(call), answer);
     let next = r.state;
     next
 }
@@ -152,11 +129,11 @@ fn steps(s: State, text: &[u8], bare: bool) -> State
 // ---- tables
 
 // What the place for the state holds after the check: how many lines and jobs, and the last accepted tick.
-fn fresh(out: &mut [u8; WIDTH], at: usize, s: State) -> usize {
-    let n = show::words(out, at, b"lines and jobs ");
-    let n = show::two(out, n, s.table.count as u64, s.list.count as u64);
-    let n = show::words(out, n, b", last tick ");
-    show::number(out, n, s.last.0)
+fn fresh(out: &mut [u8; ROOM], at: usize, s: State) -> usize {
+    let n = print::words(out, at, b"lines and jobs ");
+    let n = print::two(out, n, s.table.count as u64, s.list.count as u64);
+    let n = print::words(out, n, b", last tick ");
+    print::number(out, n, s.last.0)
 }
 
 // A table in words, and the check's answer; the state instead for 'state' and a table. An empty line does nothing.
@@ -166,15 +143,15 @@ fn checked(text: &[u8]) {
         return;
     }
     let r = scheduler::check(script::table_of(text));
-    let mut out = [0u8; WIDTH];
-    let n = show::words(&mut out, 0, text);
-    let n = show::words(&mut out, n, b" -> ");
+    let mut out = [0u8; ROOM];
+    let n = print::words(&mut out, 0, text);
+    let n = print::words(&mut out, n, b" -> ");
     if letter == b's' {
         let n = fresh(&mut out, n, r.state);
         show::send(&mut out, n);
         return;
     }
-    let n = show::verdict(&mut out, n, r.verdict);
+    let n = print::verdict(&mut out, n, r.verdict);
     show::send(&mut out, n);
 }
 
@@ -190,8 +167,8 @@ pub fn checks(heading: &[u8], tables: &[u8]) {
 }
 
 fn refused(verdict: Verdict) {
-    let mut out = [0u8; WIDTH];
-    let n = show::verdict(&mut out, 0, verdict);
+    let mut out = [0u8; ROOM];
+    let n = print::verdict(&mut out, 0, verdict);
     show::send(&mut out, n);
 }
 
@@ -200,17 +177,17 @@ fn refused(verdict: Verdict) {
 // What is counted of each task, one behind the other.
 fn counts(monitor: Monitor, tasks: usize) {
     let tallies = monitor.tallies;
-    let mut out = [0u8; WIDTH];
-    let mut n = show::words(&mut out, 0, b"counts");
+    let mut out = [0u8; ROOM];
+    let mut n = print::words(&mut out, 0, b"counts");
     let mut i = 0;
     while i < tasks {
         if 32 <= i {
             return;
         }
         if 0 < i {
-            n = show::byte(&mut out, n, b',');
+            n = print::byte(&mut out, n, b',');
         }
-        n = show::byte(&mut out, n, b' ');
+        n = print::byte(&mut out, n, b' ');
         let tally = tallies[i];
         n = show::tally(&mut out, n, tally);
         i += 1;
@@ -221,10 +198,10 @@ fn counts(monitor: Monitor, tasks: usize) {
 // ---- runs
 
 fn titled(heading: &[u8], lines: &[u8]) {
-    let mut out = [0u8; WIDTH];
+    let mut out = [0u8; ROOM];
     show::heading(heading);
-    let n = show::words(&mut out, 0, b"lines ");
-    let n = show::words(&mut out, n, lines);
+    let n = print::words(&mut out, 0, b"lines ");
+    let n = print::words(&mut out, n, lines);
     show::send(&mut out, n);
 }
 

@@ -7,16 +7,23 @@ use Rattle.rules.specs.Calls.{refusal}
 use Rattle.rules.specs.Late.{isPast}
 use Rattle.rules.specs.Number.{groupsIn, joined, restOf, numberOf, boundedAt}
 use Rattle.rules.specs.Tape.{recordBytes, lineBytes, linesBytes, tableBytes, recordsBytes, tapeOf, callAt, ticksAt, recordAt, lineAt, linesAt, tableAt, recordsIn, readTape}
+use Rattle.rules.specs.Print.{decimalIn, spaced, commaTasks, tasksText, answerText, tableText, tapeText, callsText, opening, transcript}
 use Rattle.rules.specs.Cases.{Cases}
 
 pub cases : Cases
-unfolding keyAt before refusal isPast _if_else_ _then_ refuse groupsIn joined restOf numberOf boundedAt recordBytes lineBytes linesBytes tableBytes recordsBytes tapeOf callAt ticksAt recordAt lineAt linesAt tableAt recordsIn readTape
+unfolding keyAt before refusal isPast _if_else_ _then_ refuse groupsIn joined restOf numberOf boundedAt recordBytes lineBytes linesBytes tableBytes recordsBytes tapeOf callAt ticksAt recordAt lineAt linesAt tableAt recordsIn readTape decimalIn spaced commaTasks tasksText answerText tableText tapeText callsText opening transcript
 cases =
     record {
       printed-written = refl;
       printed-read = refl;
       printed-table = refl;
       printed-run = refl;
+      printed-print = refl;
+      print-nothing-read = refl;
+      print-count-33 = refl;
+      print-no-record = refl;
+      print-bad-record = refl;
+      e-print = refl;
       printed-counts = refl;
       a-stays-delayed = refl;
       a-runs-on = refl;

@@ -3,8 +3,10 @@ use Prim.Native.Nat.{ℕ, suc, _+_, _≤_}
 use mathlib.Core.Path.{_≡_, refl, ap, _∙_}
 use mathlib.Core.Bool.{Bool, true, false, cond, _&&_}
 use mathlib.Core.List.{List, [], _∷_, _++_, map}
-use lib.ListN.{length}
+use lib.ListN.{length, set}
+use lib.Seq.{sets}
 use native.Mathlib.Omega.{arith}
+use native.Mathlib.Nat.{add-zero, add-suc, suc-add}
 use Rattle.rules.specs.Words.{countBy, only, insertBy, All, Pairs}
 
 abbrev pub rest-of {ℓ} : {A : Type ℓ} → List A → List A
@@ -124,3 +126,10 @@ count-both f g (a ∷ l) = go (g a) (f a) (count-both f g l)
     go true false h = h
     go false true h = omega arith
     go false false h = h
+
+-- ---- a buffer
+
+-- to store bytes and then others behind them is to store them all
+pub sets-append : (buf : List ℕ) (i : ℕ) (xs ys : List ℕ) → sets (sets buf i xs) (i + length xs) ys ≡ sets buf i (xs ++ ys)
+sets-append buf i [] ys = rw add-zero
+sets-append buf i (x ∷ xs) ys = rw (add-suc i, ← suc-add i) (sets-append (set buf i x) (suc i) xs ys)

@@ -1,8 +1,9 @@
 -- Document 01, "The program and one whole run" and "Errors a builder could fall into": the printed run and cases a to l, and number 10 on a table that the check refuses, as one statement. Assumes nothing.
 use Prim.Native.Nat.{ℕ}
+use Prim.Native.String.{String}
 use mathlib.Core.Path.{_≡_}
 use mathlib.Core.Bool.{true, false}
-use mathlib.Core.List.{List, [], _∷_}
+use mathlib.Core.List.{List, [], _∷_, _++_}
 use lib.ListN.{take, replicate}
 use Rattle.rules.specs.declared.Tick.{Tick}
 use Rattle.rules.specs.declared.Line.{Line}
@@ -28,6 +29,7 @@ use Rattle.rules.specs.Jobs.{Job}
 use Rattle.rules.specs.Layer.{fresh, result, choice, answer, inPlaces}
 use Rattle.rules.specs.Plain.{start, plainRun, plainChoice}
 use Rattle.rules.specs.Run.{run, answers, freshHead, headRun}
+use Rattle.rules.specs.Print.{ascii, ended, transcript}
 
 abbrev pub line : ℕ → ℕ → ℕ → Line
 line d p l = record { deadline = record { 0 = d }; priority = p; limit = l }
@@ -88,6 +90,11 @@ printedTape =
     ∷ 0x01 ∷ 0x00 ∷ 0x00 ∷ 0x01 ∷ 0x00 ∷ 0x02 ∷ 0x01 ∷ 0x00 ∷ 0x01 ∷ 0x02 ∷ 0x01 ∷ 0x01 ∷ 0x02 ∷ 0x00
     ∷ 0x02 ∷ 0x00 ∷ 0x02 ∷ 0x01 ∷ 0x00 ∷ 0x03 ∷ 0x02 ∷ 0x01 ∷ []
 
+-- a print by its lines
+abbrev pub lines : List String → List ℕ
+lines [] = []
+lines (s ∷ ss) = ended (ascii s) ++ lines ss
+
 pub record Cases : Type 0 where
   pub printed-written : tapeOf tableP printed ≡ printedTape
   pub printed-read : readTape printedTape ≡ whole tableP printed
@@ -104,6 +111,26 @@ pub record Cases : Type 0 where
       ∷ says 0 (Runs 0 (at 6)) NoCall (0 ∷ [])
       ∷ says 0 Idle TerminateTask []
       ∷ []
+  pub printed-print :
+      transcript printedTape
+      ≡ lines
+      ("tick res run due call late"
+      ∷ "0 0 0 3 A0 -"
+      ∷ "0 0 0 3 - -"
+      ∷ "0 0 0 3 - -"
+      ∷ "1 0 2 5 C2 -"
+      ∷ "3 0 2 5 - -"
+      ∷ "3 0 1 5 C1 -"
+      ∷ "4 0 0 6 C0 -"
+      ∷ "7 0 0 6 - 0"
+      ∷ "8 0 - - T -"
+      ∷ [])
+  pub print-nothing-read : transcript [] ≡ lines ("tape 20 at 0" ∷ [])
+  pub print-count-33 : transcript (33 ∷ []) ≡ lines ("table 1 - -" ∷ [])
+  pub print-no-record : transcript (0x01 ∷ 0x03 ∷ 0x0C ∷ 0x02 ∷ []) ≡ lines ("tick res run due call late" ∷ [])
+  pub print-bad-record :
+      transcript (0x01 ∷ 0x03 ∷ 0x0C ∷ 0x02 ∷ 0x03 ∷ 0x0C ∷ 0x07 ∷ 0x04 ∷ []) ≡ lines ("tick res run due call late" ∷ "12 2 - - - -" ∷ "tape 22 at 7" ∷ [])
+  pub e-print : transcript (0x02 ∷ 0x03 ∷ 0x01 ∷ 0x01 ∷ 0x05 ∷ 0x02 ∷ 0x01 ∷ 0x04 ∷ []) ≡ lines ("table 5 0 1" ∷ [])
   pub printed-counts : take 3 ((headRun tableP freshHead printed) .tallies) ≡ tally 1 2 5 ∷ tally 0 1 4 ∷ tally 0 1 3 ∷ []
   pub a-stays-delayed :
       (run tableP fresh upToTick3) .jobs ≡ job 2 0 5 Released ∷ job 1 0 5 Delayed ∷ job 0 3 6 Delayed ∷ []

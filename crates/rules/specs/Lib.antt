@@ -11,6 +11,7 @@ pub mod Plain
 pub mod Number
 pub mod Tape
 pub mod Run
+pub mod Print
 pub mod History
 pub mod Statement
 pub mod Cases

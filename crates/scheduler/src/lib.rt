@@ -11,6 +11,7 @@ ghost use Rattle.scheduler.specs.Claims.{Claims};
 use jobs::JobList;
 use monitor::Monitor;
 use rules::Answer;
+use rules::Call;
 use rules::Choice;
 use rules::Job;
 use rules::KernelCall;
@@ -153,6 +154,19 @@ pub fn chain(s: State, at: Tick, task: u8) -> Stepped
     let others = jobs::remove(s.list, 0);
     let change = chained(others, task, new.due);
     accepted(s.table, at, late, monitor, change)
+}
+
+// Any of the four.
+pub fn call(s: State, call: Call) -> Stepped
+    requires { ⌜ Handed s ⌝ }
+    ensures { λ r. ⌜ (r ≡ stepOf s call) × Handed (r .state) ⌝ }
+{
+    match call {
+        Call::Wait(at) => tick(s, at),
+        Call::Activate(at, task) => activate(s, at, task),
+        Call::Terminate(at) => terminate(s, at),
+        Call::Chain(at, task) => chain(s, at, task),
+    }
 }
 
 // ---- the refusals, in the order of the rows

@@ -1,4 +1,4 @@
-// Tables and calls read from text, so that a run says in words what is called.
+// Tables, calls and bytes read from text, so that a run says in words what is called.
 ghost use Prim.Native.Nat.{_≤_};
 ghost use lib.ListN.{length};
 use rules::Call;
@@ -218,4 +218,65 @@ pub fn table_of(text: &[u8]) -> TaskTable {
         lines,
         count: told.count,
     }
+}
+
+// ---- bytes
+
+// How many bytes a tape or a buffer of a run has at most.
+pub const ROOM: usize = 65537;
+
+// What a hexadecimal digit stands for.
+fn hex_digit(b: u8) -> u8
+    ensures { λ r. ⌜ r ≤ 15 ⌝ }
+{
+    (b % 16 + b / 64 * 9) % 16
+}
+
+// '12*EE': how often; once where it is not said.
+fn times(text: &[u8]) -> u64 {
+    let star = find(text, 0, b'*');
+    if star == text.len() {
+        return 1;
+    }
+    let found = number(text, 0);
+    found.value
+}
+
+// 'EE', '12*EE': puts the byte that a word ends in, as far as there is room. A word of one letter is no byte. Gives the place behind.
+fn put(text: &[u8], room: &mut [u8; ROOM], at: usize) -> usize
+    requires { ⌜ at ≤ 65537 ⌝ }
+    ensures { λ r. ⌜ (at ≤ r) × (r ≤ 65537) ⌝ }
+{
+    let k = text.len();
+    if k < 2 {
+        return at;
+    }
+    let b = hex_digit(text[k - 2]) * 16 + hex_digit(text[k - 1]);
+    let more = times(text);
+    let mut n = at;
+    let mut i: u64 = 0;
+    while i < more {
+        if ROOM <= n {
+            return n;
+        }
+        room[n] = b;
+        n += 1;
+        i += 1;
+    }
+    n
+}
+
+// The bytes of a part of a text, from a place on, with spaces between them. Gives the place behind.
+pub fn bytes_of(text: &[u8], from: usize, to: usize, room: &mut [u8; ROOM], at: usize) -> usize
+    requires { ⌜ (to ≤ length (now text)) × (at ≤ 65537) ⌝ }
+    ensures { λ r. ⌜ (at ≤ r) × (r ≤ 65537) ⌝ }
+{
+    let mut n = at;
+    let mut i = from;
+    while i < to {
+        let end = find(text, i, b' ');
+        n = put(&text[i..end], room, n);
+        i = end + 1;
+    }
+    n
 }

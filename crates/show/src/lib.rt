@@ -1,177 +1,18 @@
-// What the check and the calls answer, as document 01 prints it. A line is put into a lent buffer and goes out in one write.
-ghost use mathlib.Core.List.{[], _∷_};
-ghost use Prim.Native.Nat.{_≤_};
-ghost use lib.ListN.{take, drop};
-ghost use Rattle.show.specs.Text.{Put, decimal, spaced, behind, choiceText, callText, lateText, answerText, namedText, verdictText, tallyText};
+// Lines of the runs: put into a buffer, and sent to standard output in one write.
+ghost use Rattle.print.specs.Buffers.{Put};
+ghost use Rattle.show.specs.Text.{tallyText};
 use libc::STDOUT_FILENO;
-use rules::Answer;
-use rules::Choice;
-use rules::KernelCall;
-use rules::Late;
-use rules::Named;
+use print::ROOM;
 use rules::Tally;
-use rules::Tick;
-use rules::Verdict;
-
-// How long a line may be. A call's line has at most 183 bytes. What does not fit is left out.
-pub const WIDTH: usize = 1024;
-
-// ---- parts of a line: each is put at a place, and gives the place behind it (specs/Text)
-
-fn put(out: &mut [u8], at: usize, b: u8) -> usize
-    ensures { λ r. ⌜ Put (now (out .entry)) at (b ∷ []) (now (out .exit)) r ⌝ }
-{
-    if at < out.len() {
-        out[at] = b;
-        return at + 1;
-    }
-    at
-}
-
-pub fn byte(out: &mut [u8; WIDTH], at: usize, b: u8) -> usize
-    ensures { λ r. ⌜ Put (now (out .entry)) at (b ∷ []) (now (out .exit)) r ⌝ }
-{
-    put(out, at, b)
-}
-
-pub fn words(out: &mut [u8; WIDTH], at: usize, text: &[u8]) -> usize
-    ensures { λ r. ⌜ Put (now (out .entry)) at (now (text .entry)) (now (out .exit)) r ⌝ }
-{
-    let mut next = at;
-    let mut i = 0;
-    while i < text.len() {
-        next = byte(out, next, text[i]);
-        i += 1;
-    }
-    next
-}
-
-pub fn number(out: &mut [u8; WIDTH], at: usize, n: u64) -> usize
-    ensures { λ r. ⌜ Put (now (out .entry)) at (decimal n) (now (out .exit)) r ⌝ }
-{
-    let mut digits = [0u8; 20];
-    let k = io::decimal(n, &mut digits);
-    words(out, at, &digits[..k])
-}
-
-// A letter and a task number.
-fn named(out: &mut [u8; WIDTH], at: usize, letter: u8, task: u8) -> usize
-    ensures { λ r. ⌜ Put (now (out .entry)) at (letter ∷ decimal task) (now (out .exit)) r ⌝ }
-{
-    let next = byte(out, at, letter);
-    number(out, next, task as u64)
-}
-
-// Two numbers with a space between them.
-pub fn two(out: &mut [u8; WIDTH], at: usize, x: u64, y: u64) -> usize
-    ensures { λ r. ⌜ Put (now (out .entry)) at (spaced (decimal x ∷ decimal y ∷ [])) (now (out .exit)) r ⌝ }
-{
-    let next = number(out, at, x);
-    let next = byte(out, next, b' ');
-    number(out, next, y)
-}
-
-// The running task and its deadline.
-pub fn running(out: &mut [u8; WIDTH], at: usize, choice: Choice) -> usize
-    ensures { λ r. ⌜ Put (now (out .entry)) at (choiceText choice) (now (out .exit)) r ⌝ }
-{
-    match choice {
-        Choice::Idle => words(out, at, b"- -"),
-        Choice::Runs(task, due) => two(out, at, task as u64, due.0),
-    }
-}
-
-fn kernel_call(out: &mut [u8; WIDTH], at: usize, call: KernelCall) -> usize
-    ensures { λ r. ⌜ Put (now (out .entry)) at (callText call) (now (out .exit)) r ⌝ }
-{
-    match call {
-        KernelCall::NoCall => byte(out, at, b'-'),
-        KernelCall::ActivateTask(task) => named(out, at, b'A', task),
-        KernelCall::ChainTask(task) => named(out, at, b'C', task),
-        KernelCall::TerminateTask => byte(out, at, b'T'),
-    }
-}
-
-// The tasks behind the first, each with a comma in front of it.
-fn more_tasks(out: &mut [u8; WIDTH], at: usize, tasks: [u8; 32], n: usize) -> usize
-    requires { ⌜ (1 ≤ n) × (n ≤ 32) ⌝ }
-    ensures { λ r. ⌜ Put (now (out .entry)) at (behind (drop 1 (take n tasks))) (now (out .exit)) r ⌝ }
-{
-    let mut next = at;
-    let mut i = 1;
-    while i < n {
-        next = named(out, next, b',', tasks[i]);
-        i += 1;
-    }
-    next
-}
-
-// The newly late tasks joined by commas.
-fn late_tasks(out: &mut [u8; WIDTH], at: usize, late: Late) -> usize
-    ensures { λ r. ⌜ Put (now (out .entry)) at (lateText late) (now (out .exit)) r ⌝ }
-{
-    if late.count == 0 {
-        return byte(out, at, b'-');
-    }
-    let tasks = late.tasks;
-    let next = number(out, at, tasks[0] as u64);
-    if 32 < late.count {
-        return more_tasks(out, next, tasks, 32);
-    }
-    more_tasks(out, next, tasks, late.count as usize)
-}
-
-// A call's line: its tick, result, running task, its deadline, kernel call, newly late tasks.
-pub fn answer(out: &mut [u8; WIDTH], at: usize, tick: Tick, answer: Answer) -> usize
-    ensures { λ r. ⌜ Put (now (out .entry)) at (answerText tick answer) (now (out .exit)) r ⌝ }
-{
-    let next = two(out, at, tick.0, answer.result as u64);
-    let next = byte(out, next, b' ');
-    let choice = answer.running;
-    let next = running(out, next, choice);
-    let next = byte(out, next, b' ');
-    let call = answer.call;
-    let next = kernel_call(out, next, call);
-    let next = byte(out, next, b' ');
-    let late = answer.late;
-    late_tasks(out, next, late)
-}
-
-// The lines that a table's answer names.
-fn lines_named(out: &mut [u8; WIDTH], at: usize, lines: Named) -> usize
-    ensures { λ r. ⌜ Put (now (out .entry)) at (namedText lines) (now (out .exit)) r ⌝ }
-{
-    match lines {
-        Named::NoneNamed => words(out, at, b"- -"),
-        Named::TheLine(i) => {
-            let next = number(out, at, i as u64);
-            words(out, next, b" -")
-        }
-        Named::BothLines(i, j) => two(out, at, i as u64, j as u64),
-    }
-}
-
-// A table's answer: its number and the lines named.
-pub fn verdict(out: &mut [u8; WIDTH], at: usize, verdict: Verdict) -> usize
-    ensures { λ r. ⌜ Put (now (out .entry)) at (verdictText verdict) (now (out .exit)) r ⌝ }
-{
-    let next = words(out, at, b"table ");
-    let next = number(out, next, verdict.number as u64);
-    let next = byte(out, next, b' ');
-    let lines = verdict.lines;
-    lines_named(out, next, lines)
-}
 
 // What is counted of a task: late jobs, ended jobs, greatest response.
-pub fn tally(out: &mut [u8; WIDTH], at: usize, tally: Tally) -> usize
+pub fn tally(out: &mut [u8; ROOM], at: usize, tally: Tally) -> usize
     ensures { λ r. ⌜ Put (now (out .entry)) at (tallyText tally) (now (out .exit)) r ⌝ }
 {
-    let next = two(out, at, tally.late as u64, tally.ended as u64);
-    let next = byte(out, next, b' ');
-    number(out, next, tally.response)
+    let next = print::two(out, at, tally.late as u64, tally.ended as u64);
+    let next = print::byte(out, next, b' ');
+    print::number(out, next, tally.response)
 }
-
-// ---- whole lines, to standard output
 
 // The first bytes of a buffer.
 fn first_bytes(out: &[u8], n: usize) -> bool {
@@ -181,28 +22,35 @@ fn first_bytes(out: &[u8], n: usize) -> bool {
     false
 }
 
+// Whole lines, up to a place.
+fn sent(out: &mut [u8; ROOM], at: usize) -> bool {
+    first_bytes(out, at)
+}
+
 // The line that ends at a place.
-pub fn send(out: &mut [u8; WIDTH], at: usize) -> bool {
-    let n = byte(out, at, b'\n');
-    first_bytes(out, n)
+pub fn send(out: &mut [u8; ROOM], at: usize) -> bool {
+    let n = print::byte(out, at, b'\n');
+    sent(out, n)
 }
 
 // A line of words.
 pub fn say(text: &[u8]) -> bool {
-    let mut out = [0u8; WIDTH];
-    let n = words(&mut out, 0, text);
+    let mut out = [0u8; ROOM];
+    let n = print::words(&mut out, 0, text);
     send(&mut out, n)
 }
 
 // A heading, with an empty line above it.
 pub fn heading(text: &[u8]) -> bool {
-    let mut out = [0u8; WIDTH];
-    let n = words(&mut out, 0, b"\n== ");
-    let n = words(&mut out, n, text);
+    let mut out = [0u8; ROOM];
+    let n = print::words(&mut out, 0, b"\n== ");
+    let n = print::words(&mut out, n, text);
     send(&mut out, n)
 }
 
 // What stands above the lines of calls.
 pub fn header() -> bool {
-    say(b"tick res run due call late")
+    let mut out = [0u8; ROOM];
+    let n = print::header_line(&mut out, 0);
+    sent(&mut out, n)
 }

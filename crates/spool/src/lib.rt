@@ -11,11 +11,9 @@ use rules::RecordRead;
 use rules::Tick;
 use rules::Written;
 use script::Lines;
+use script::ROOM;
 use tape::MOST_LINES;
 use tape::TableRead;
-
-// How many bytes a tape or a buffer of a run has at most.
-const ROOM: usize = 4096;
 
 // ---- answers in words
 
@@ -135,64 +133,6 @@ fn content(bytes: &[u8]) {
     }
 }
 
-// ---- bytes in words
-
-// What a hexadecimal digit stands for.
-fn digit(b: u8) -> u8
-    ensures { λ r. ⌜ r ≤ 15 ⌝ }
-{
-    (b % 16 + b / 64 * 9) % 16
-}
-
-// '12*EE': how often; once where it is not said.
-fn times(text: &[u8]) -> u64 {
-    let star = script::find(text, 0, b'*');
-    if star == text.len() {
-        return 1;
-    }
-    let found = script::number(text, 0);
-    found.value
-}
-
-// 'EE', '12*EE': puts the byte that a word ends in, as far as there is room. A word of one letter is no byte. Gives the place behind.
-fn put(text: &[u8], room: &mut [u8; ROOM], at: usize) -> usize
-    requires { ⌜ at ≤ 4096 ⌝ }
-    ensures { λ r. ⌜ (at ≤ r) × (r ≤ 4096) ⌝ }
-{
-    let k = text.len();
-    if k < 2 {
-        return at;
-    }
-    let b = digit(text[k - 2]) * 16 + digit(text[k - 1]);
-    let more = times(text);
-    let mut n = at;
-    let mut i: u64 = 0;
-    while i < more {
-        if ROOM <= n {
-            return n;
-        }
-        room[n] = b;
-        n += 1;
-        i += 1;
-    }
-    n
-}
-
-// The bytes of a part of a text, from a place on, with spaces between them. Gives the place behind.
-fn bytes_of(text: &[u8], from: usize, to: usize, room: &mut [u8; ROOM], at: usize) -> usize
-    requires { ⌜ (to ≤ length (now text)) × (at ≤ 4096) ⌝ }
-    ensures { λ r. ⌜ (at ≤ r) × (r ≤ 4096) ⌝ }
-{
-    let mut n = at;
-    let mut i = from;
-    while i < to {
-        let end = script::find(text, i, b' ');
-        n = put(&text[i..end], room, n);
-        i = end + 1;
-    }
-    n
-}
-
 // ---- lines that read
 
 // How many lines a table has, and those that are kept.
@@ -288,15 +228,15 @@ fn write_each(text: &[u8], buf: &mut [u8], start: usize, end: usize) -> usize
 
 // '11 22 [ EE EE ] 33': what stands in brackets is lent. Gives how many bytes there are.
 fn write(text: &[u8], room: &mut [u8; ROOM]) -> usize
-    ensures { λ r. ⌜ r ≤ 4096 ⌝ }
+    ensures { λ r. ⌜ r ≤ 65537 ⌝ }
 {
     let colon = script::find(text, 0, b':');
     let open = script::find(text, colon, b'[');
     let shut = script::find(text, open, b']');
-    let start = bytes_of(text, colon, open, room, 0);
-    let end = bytes_of(text, open, shut, room, start);
+    let start = script::bytes_of(text, colon, open, room, 0);
+    let end = script::bytes_of(text, open, shut, room, start);
     write_each(&text[0..colon], room, start, end);
-    bytes_of(text, shut, text.len(), room, end)
+    script::bytes_of(text, shut, text.len(), room, end)
 }
 
 // ---- lines that write and read
@@ -351,21 +291,21 @@ fn back(text: &[u8], tape: &[u8]) {
 
 // The buffer of a line, with what is written to it. Gives how many bytes there are.
 fn filled(text: &[u8], letter: u8, room: &mut [u8; ROOM]) -> usize
-    ensures { λ r. ⌜ r ≤ 4096 ⌝ }
+    ensures { λ r. ⌜ r ≤ 65537 ⌝ }
 {
     match letter {
         b'w' => write(text, room),
         b'b' => write_each(text, room, 0, ROOM),
         _ => {
             let colon = script::find(text, 0, b':');
-            bytes_of(text, colon, text.len(), room, 0)
+            script::bytes_of(text, colon, text.len(), room, 0)
         }
     }
 }
 
 // What the first bytes of a buffer are read as: 'number at 1', 'count', 'line at 1', 'record at 1 after 3', 'tape'; or what was written to them.
 fn shown(text: &[u8], letter: u8, room: &[u8; ROOM], count: usize)
-    requires { ⌜ count ≤ 4096 ⌝ }
+    requires { ⌜ count ≤ 65537 ⌝ }
 {
     let bytes = &room[..];
     let tape = &bytes[0..count];

@@ -1,6 +1,7 @@
 -- `show::tally` meets its contract. Assumes nothing.
-use Rattle.show.proofs.Texts.{as-text, then, pair-spaced}
-use Rattle.show.specs.Text.{decimal, spaced, tallyText}
+use Rattle.print.proofs.Texts.{as-text, then, pair-spaced}
+use Rattle.rules.specs.Print.{decimal, spaced}
+use Rattle.show.specs.Text.{tallyText}
 use borrow.Author.Needs.{needs}
 use Rattle.show.proofs.tally.Statement.{statement}
 use Rattle.show.proofs.tally.Tie as tie

@@ -1,0 +1,3 @@
+-- What is printed for a tape, piece by piece.
+pub mod Pieces
+pub mod Claims

@@ -1,0 +1,266 @@
+// What document 01's program prints for a tape: read, checked, run and printed, piece by piece.
+ghost use mathlib.Core.Path.{_≡_};
+ghost use mathlib.Core.Bool.{true};
+ghost use Prim.Native.Nat.{_+_, _≤_, _<_};
+ghost use lib.ListN.{length};
+ghost use Rattle.rules.specs.declared.Verdict.{Verdict};
+ghost use Rattle.rules.specs.Tape.{greatestByte};
+ghost use Rattle.rules.specs.Number.{boundedAt};
+ghost use Rattle.rules.specs.Print.{isAbove, tapeText, ended};
+ghost use Rattle.scheduler.specs.State.{Handed};
+ghost use Rattle.print.specs.Buffers.{Put};
+ghost use Rattle.transcript.specs.Pieces.{nowhere, openedOf, HandedOpen, openText, calledOf, stopLine, bufferRoom, lineMost, NextLine, Piece};
+ghost use Rattle.transcript.specs.Claims.{Claims};
+use libc::STDOUT_FILENO;
+use print::ROOM;
+use rules::Answer;
+use rules::Call;
+use rules::Named;
+use rules::NumberRead;
+use rules::PLACES;
+use rules::RecordRead;
+use rules::Tick;
+use rules::Verdict;
+use scheduler::State;
+use tape::TableRead;
+
+// How many bytes a tape has at most.
+pub const LONGEST: usize = 65536;
+
+// How many bytes a line has at most.
+const LINE: usize = 1024;
+
+// How a tape opens: its table is accepted, or refused, or the tape is bad, with the refusal's number and the place.
+pub enum Opening {
+    Accepted,
+    BadTable(Verdict),
+    BadTape { number: u8, place: usize },
+}
+
+// How far a tape was run: the state, the place of the next record, and the tick of the one before it.
+pub struct Run {
+    pub state: State,
+    pub at: usize,
+    pub preceding: Tick,
+}
+
+// A tape's opening, and the run in front of its first record. Where the table isn't accepted there is nothing to run.
+pub struct Opened {
+    pub answer: Opening,
+    pub run: Run,
+}
+
+// What a record's call answered, and the run behind the record.
+pub struct Called {
+    pub answer: Answer,
+    pub run: Run,
+}
+
+// Whether there may be more, the place behind what was put, and the run.
+pub struct Lined {
+    pub more: bool,
+    pub next: usize,
+    pub run: Run,
+}
+
+// ---- the table
+
+// A count of lines above 32.
+fn is_above(read: NumberRead) -> bool
+    ensures { λ r. ⌜ r ≡ isAbove read ⌝ }
+{
+    match read {
+        NumberRead::Value { value, .. } => PLACES < value as usize,
+        NumberRead::Refused(_) => false,
+    }
+}
+
+// Nothing to run.
+fn closed(answer: Opening) -> Opened
+    ensures { λ r. ⌜ r ≡ record { answer = answer; run = nowhere } ⌝ }
+{
+    let r = scheduler::check(table::empty());
+    let state = r.state;
+    Opened {
+        answer,
+        run: Run {
+            state,
+            at: 0,
+            preceding: Tick(0),
+        },
+    }
+}
+
+// 26 before everything; a count above 32 as soon as it is read; then the table, and its check.
+pub fn open(tape: &[u8]) -> Opened
+    ensures { λ r. ⌜ (r ≡ openedOf (now (tape .entry))) × HandedOpen r ⌝ }
+{
+    if LONGEST < tape.len() {
+        return closed(Opening::BadTape {
+            number: 26,
+            place: LONGEST,
+        });
+    }
+    if is_above(tape::read_count(tape)) {
+        return closed(Opening::BadTable(Verdict {
+            number: 1,
+            lines: Named::NoneNamed,
+        }));
+    }
+    let told = tape::read_table(tape);
+    let read = told.answer;
+    match read {
+        TableRead::Refused(number) => closed(Opening::BadTape { number, place: 0 }),
+        TableRead::Table { next } => {
+            let r = scheduler::check(told.table);
+            let verdict = r.verdict;
+            if verdict.number != 0 {
+                return closed(Opening::BadTable(verdict));
+            }
+            let state = r.state;
+            Opened {
+                answer: Opening::Accepted,
+                run: Run {
+                    state,
+                    at: next,
+                    preceding: Tick(0),
+                },
+            }
+        }
+    }
+}
+
+// The header once the table is accepted; otherwise the one line only.
+pub fn open_line(out: &mut [u8; ROOM], at: usize, answer: Opening) -> usize
+    ensures { λ r. ⌜ Put (now (out .entry)) at (openText answer) (now (out .exit)) r ⌝ }
+{
+    match answer {
+        Opening::Accepted => print::header_line(out, at),
+        Opening::BadTable(verdict) => print::table_line(out, at, verdict),
+        Opening::BadTape { number, place } => print::tape_line(out, at, number, place),
+    }
+}
+
+// ---- the records
+
+// A record's call is made, and the run goes on behind the record.
+pub fn run_call(run: Run, call: Call, next: usize) -> Called
+    requires { ⌜ Handed (run .state) ⌝ }
+    ensures { λ r. ⌜ (r ≡ calledOf run call next) × Handed (r .run .state) ⌝ }
+{
+    let r = scheduler::call(run.state, call);
+    let answer = r.answer;
+    let state = r.state;
+    Called {
+        answer,
+        run: Run {
+            state,
+            at: next,
+            preceding: records::tick_of(call),
+        },
+    }
+}
+
+// A bad tape's line; nothing at the tape's end.
+fn stopped(out: &mut [u8; ROOM], at: usize, read: RecordRead, place: usize) -> usize
+    ensures { λ r. ⌜ Put (now (out .entry)) at (stopLine place read) (now (out .exit)) r ⌝ }
+{
+    match read {
+        RecordRead::Record { .. } => at,
+        RecordRead::End => at,
+        RecordRead::Refused(number) => print::tape_line(out, at, number, place),
+    }
+}
+
+// The next record is read and run, and its line put at a place. The end of the tape and a refusal stop the run.
+pub fn next_line(tape: &[u8], run: Run, out: &mut [u8; ROOM], at: usize) -> Lined
+    requires { ⌜ Handed (run .state) ⌝ }
+    ensures { λ r. ⌜ NextLine (now (tape .entry)) run (now (out .entry)) at r (now (out .exit)) ⌝ }
+{
+    let read = records::read_record(tape, run.at, run.preceding);
+    let RecordRead::Record { call, next } = read else {
+        let behind = stopped(out, at, read, run.at);
+        return Lined {
+            more: false,
+            next: behind,
+            run,
+        };
+    };
+    let r = run_call(run, call, next);
+    let answer = r.answer;
+    let behind = print::answer_line(out, at, records::tick_of(call), answer);
+    let run = r.run;
+    Lined {
+        more: true,
+        next: behind,
+        run,
+    }
+}
+
+// The next piece: lines as long as one more is sure to fit.
+fn piece(tape: &[u8], run: Run, out: &mut [u8; ROOM], at: usize) -> Lined
+    requires { ⌜ Handed (run .state) × (length (now out) ≡ bufferRoom) × (at + lineMost ≤ bufferRoom) ⌝ }
+    ensures { λ r. ⌜ Piece (now (tape .entry)) run (now (out .entry)) at r (now (out .exit)) ⌝ }
+{
+    let mut now = run;
+    let mut next = at;
+    while next + LINE <= ROOM {
+        let r = next_line(tape, now, out, next);
+        next = r.next;
+        now = r.run;
+        if !r.more {
+            return Lined {
+                more: false,
+                next,
+                run: now,
+            };
+        }
+    }
+    Lined {
+        more: true,
+        next,
+        run: now,
+    }
+}
+
+// ---- to standard output
+
+// The first bytes of a buffer, in one write.
+fn first_bytes(out: &[u8], n: usize) -> bool {
+    if n <= out.len() {
+        return io::write_all(STDOUT_FILENO, &out[0..n]);
+    }
+    false
+}
+
+fn sent(out: &[u8; ROOM], n: usize) -> bool {
+    first_bytes(out, n)
+}
+
+// Prints what the program prints for a tape. False where standard output takes no more.
+pub fn write(tape: &[u8]) -> bool {
+    let mut out = io::large_buffer();
+    let opened = open(tape);
+    let answer = opened.answer;
+    let mut at = open_line(&mut out, 0, answer);
+    let Opening::Accepted = answer else {
+        return sent(&out, at);
+    };
+    let mut run = opened.run;
+    loop {
+        let r = piece(tape, run, &mut out, at);
+        if !sent(&out, r.next) {
+            return false;
+        }
+        if !r.more {
+            return true;
+        }
+        run = r.run;
+        at = 0;
+    }
+}
+
+// Does nothing. Its contract is all of specs/Claims, so that a claim without a proof fails the check.
+pub fn transcript_holds()
+    ensures { λ r. ⌜ Claims ⌝ }
+{}
