@@ -3,7 +3,7 @@ use Prim.Native.Nat.{ℕ, zero, suc, _+_, _-_, _/_, _%_, _^_, _≤_, _<_}
 use mathlib.Core.Path.{_≡_, refl, sym, ap, _∙_, subst}
 use mathlib.Core.Bool.{Bool, true, false}
 use mathlib.Core.List.{List, [], _∷_, _++_, append-assoc, append-nil}
-use lib.ListN.{length, take, drop, set, getD, length-take, length-append, length-set}
+use lib.ListN.{length, take, drop, set, getD, length-take, length-append}
 use lib.Seq.{sets, length-sets, take-all, take-suc, drop-append-le}
 use lib.Dec.{leb, lit<}
 use native.Mathlib.Omega.{arith}

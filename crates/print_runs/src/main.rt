@@ -1,6 +1,5 @@
 // What is printed for many tapes: their bytes are read from standard input, in words.
 ghost use Prim.Native.Nat.{_≤_};
-ghost use lib.ListN.{length};
 use libc::STDIN_FILENO;
 use libc::STDOUT_FILENO;
 use script::ROOM;

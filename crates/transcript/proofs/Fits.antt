@@ -1,6 +1,6 @@
 -- No line is longer than the room that is kept for it. Assumes nothing.
 use Prim.Native.Nat.{ℕ, zero, suc, _+_, _*_, _≤_}
-use mathlib.Core.Path.{_≡_, refl, sym, ap, _∙_, subst⁻¹}
+use mathlib.Core.Path.{_≡_, ap, _∙_, subst⁻¹}
 use mathlib.Core.Bool.{Bool, true, false, cond}
 use mathlib.Core.List.{List, [], _∷_, _++_}
 use native.Mathlib.Omega.{arith}
@@ -19,7 +19,7 @@ use Rattle.rules.specs.declared.RecordRead.the-variants.{Record, End, Refused}
 use Rattle.rules.specs.Table.{Table}
 use Rattle.rules.specs.Layer.{Board, answer}
 use Rattle.rules.specs.Run.{Head, Reached}
-use Rattle.rules.specs.Print.{ascii, decimalIn, decimal, spaced, ended, runText, dueText, callText, commaTasks, tasksText, lateText, answerText, tapeText}
+use Rattle.rules.specs.Print.{ascii, decimalIn, decimal, spaced, ended, runText, dueText, callText, commaTasks, tasksText, answerText, tapeText}
 use Rattle.rules.proofs.Reached.{reached-keeps, reached-board}
 use Rattle.rules.proofs.Places.{places-suffice}
 use Rattle.scheduler.specs.declared.State.{State}
@@ -27,7 +27,6 @@ use Rattle.scheduler.specs.declared.Stepped.{Stepped}
 use Rattle.scheduler.specs.State.{stateOf, Handed, told, stepOf}
 use Rattle.scheduler.proofs.Back.{step-is}
 use Rattle.scheduler.proofs.Handed.{handed-by}
-use Rattle.transcript.specs.declared.Run.{Run}
 use Rattle.transcript.specs.Pieces.{calledOf, readIn, lineText, lineMost}
 use Rattle.transcript.specs.Claims.{LinesFit}
 

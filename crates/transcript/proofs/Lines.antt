@@ -10,7 +10,6 @@ use lib.ListN.{length, take, length-append, length-take}
 use lib.Seq.{sets, length-sets, sets-eq, take-all, take-append-seam}
 use mathlib.Core.List.{List, [], _∷_, _++_, append-nil, append-assoc}
 use Rattle.rules.specs.declared.Tick.{Tick}
-use Rattle.rules.specs.declared.Call.{Call}
 use Rattle.rules.specs.declared.RecordRead.{RecordRead}
 use Rattle.rules.specs.declared.RecordRead.the-variants.{Record, End, Refused}
 use Rattle.rules.specs.Table.{Table}
@@ -18,7 +17,7 @@ use Rattle.rules.specs.Calls.{tickOf}
 use Rattle.rules.specs.Layer.{next, answer}
 use Rattle.rules.specs.Run.{Head, headNext, Reached}
 use Rattle.rules.specs.Tape.{afterRecord, recordsAt}
-use Rattle.rules.specs.Print.{ended, answerText, tapeText, callsText, stopText, recordsText}
+use Rattle.rules.specs.Print.{ended, answerText, tapeText, callsText, recordsText}
 use Rattle.rules.proofs.RecordRead.{the-type}
 use Rattle.rules.proofs.Reached.{reached-next}
 use Rattle.tape.proofs.Records.{forward}

@@ -1,18 +1,15 @@
 -- What was written as a tape is run and printed whole. Assumes nothing.
 use Prim.Native.Nat.{ℕ, _≤_}
-use mathlib.Core.Path.{_≡_, refl, sym, ap, _∙_}
-use mathlib.Core.Bool.{cond}
-use mathlib.Core.List.{List, [], _++_, append-nil}
-use native.Mathlib.Omega.{arith}
+use mathlib.Core.Path.{_≡_, ap}
+use mathlib.Core.List.{List, _++_, append-nil}
 use lib.ListN.{length}
-use lib.Dec.{ltb, eqb}
 use borrow.Author.Tests.{le-ltb}
 use Rattle.rules.specs.declared.Verdict.{Verdict}
 use Rattle.rules.specs.Words.{places}
 use Rattle.rules.specs.Table.{size, check}
 use Rattle.rules.specs.Layer.{fresh}
 use Rattle.rules.specs.Tape.{tapeOf}
-use Rattle.rules.specs.Print.{ended, headerText, callsText, opens, longest, opening, openingText, behindText, transcript}
+use Rattle.rules.specs.Print.{ended, headerText, callsText, opens, longest, opening, transcript}
 use Rattle.rules.proofs.Checked.{keeps-found}
 use Rattle.tape.proofs.Tapes.{tape-parts}
 use Rattle.transcript.specs.Claims.{WrittenPrints}

@@ -7,11 +7,10 @@ use lib.ListN.{length, take}
 use Rattle.rules.specs.declared.RecordRead.{RecordRead}
 use Rattle.rules.specs.declared.RecordRead.the-variants.{Record, End}
 use Rattle.rules.specs.declared.Call.{Call}
-use Rattle.rules.specs.Table.{Table}
 use Rattle.rules.specs.Calls.{tickOf}
 use Rattle.rules.specs.Run.{freshHead}
 use Rattle.rules.specs.Tape.{zeroTick, recordAt, recordsAt}
-use Rattle.rules.specs.Print.{ended, answerText, tapeText, recordsText, openingText, badTape, badTable, opens, opening}
+use Rattle.rules.specs.Print.{ended, answerText, tapeText, recordsText, badTape, badTable, opens, opening}
 use Rattle.rules.specs.Print as print
 use Rattle.scheduler.specs.State.{stateOf, tableOf, headOf, Handed, stepOf}
 use Rattle.print.specs.Buffers.{Put}

@@ -3,10 +3,6 @@ use Rattle.print.proofs.Texts.{then}
 use borrow.Author.Needs.{needs}
 use Rattle.print.proofs.answer_line.Statement.{statement}
 use Rattle.print.proofs.answer_line.Tie as tie
-use Rattle.print.proofs.answer_line.Reads as reads
-use Rattle.print.proofs.answer_line.Lts as lts
-use Rattle.print.proofs.answer.Reads as answer-reads
-use Rattle.print.proofs.byte.Reads as byte-reads
 
 answer-requires : tie.Need-answer-requires
 answer-requires c κs = search needs

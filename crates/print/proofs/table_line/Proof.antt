@@ -3,10 +3,6 @@ use Rattle.print.proofs.Texts.{then}
 use borrow.Author.Needs.{needs}
 use Rattle.print.proofs.table_line.Statement.{statement}
 use Rattle.print.proofs.table_line.Tie as tie
-use Rattle.print.proofs.table_line.Reads as reads
-use Rattle.print.proofs.table_line.Lts as lts
-use Rattle.print.proofs.byte.Reads as byte-reads
-use Rattle.print.proofs.verdict.Reads as verdict-reads
 
 verdict-requires : tie.Need-verdict-requires
 verdict-requires c κs = search needs

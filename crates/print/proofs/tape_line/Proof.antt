@@ -4,11 +4,6 @@ use Rattle.rules.specs.Print.{spaced, tapeText}
 use borrow.Author.Needs.{needs}
 use Rattle.print.proofs.tape_line.Statement.{statement}
 use Rattle.print.proofs.tape_line.Tie as tie
-use Rattle.print.proofs.tape_line.Reads as reads
-use Rattle.print.proofs.tape_line.Lts as lts
-use Rattle.print.proofs.byte.Reads as byte-reads
-use Rattle.print.proofs.number.Reads as number-reads
-use Rattle.print.proofs.words.Reads as words-reads
 
 slice-aggregate-words : tie.Need-slice-aggregate-words
 slice-aggregate-words c = search needs

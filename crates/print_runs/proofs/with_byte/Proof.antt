@@ -1,5 +1,5 @@
 -- `print_runs::with_byte` meets its contract. Assumes nothing.
-use Prim.Native.Nat.{ℕ, _+_, _*_, _%_, _≤_}
+use Prim.Native.Nat.{_+_, _%_}
 use native.Mathlib.Omega.{arith}
 use native.Mathlib.Nat.{mul-le-mul, mod-lt}
 use borrow.Author.Needs.{needs}

@@ -1,15 +1,9 @@
 -- `scheduler::call` meets its contract. Assumes nothing.
-use mathlib.Core.Path.{_≡_, sym, ap, _∙_}
+use mathlib.Core.Path.{sym, ap, _∙_}
 use Rattle.scheduler.specs.State.{stepOf}
 use borrow.Author.Needs.{needs}
 use Rattle.scheduler.proofs.call.Statement.{statement}
 use Rattle.scheduler.proofs.call.Tie as tie
-use Rattle.scheduler.proofs.call.Reads as reads
-use Rattle.scheduler.proofs.call.Lts as lts
-use Rattle.scheduler.proofs.activate.Reads as activate-reads
-use Rattle.scheduler.proofs.chain.Reads as chain-reads
-use Rattle.scheduler.proofs.terminate.Reads as terminate-reads
-use Rattle.scheduler.proofs.tick.Reads as tick-reads
 
 enum-known-call : tie.Need-enum-known-call
 enum-known-call c = search needs

@@ -3,15 +3,7 @@ use Rattle.rules.specs.Tape.{zeroTick}
 use Rattle.transcript.specs.Pieces.{nowhere}
 use Rattle.transcript.proofs.Opens.{nothing-checked}
 -- `transcript::closed` meets its contract. Assumes nothing.
-use mathlib.Core.Path.{_≡_, refl, ap, _∙_}
-use mathlib.Core.List.{[]}
-use Rattle.rules.specs.Table.{_then_, refuse}
-use Rattle.rules.specs.Run.{freshHead}
-use Rattle.table.specs.declared.TaskTable.{TaskTable}
-use Rattle.scheduler.specs.declared.Checked.{Checked}
-use Rattle.scheduler.specs.declared.State.{State}
-use Rattle.scheduler.specs.State.{stateOf, checkedOf}
-use Rattle.transcript.specs.declared.Opened.{Opened}
+use mathlib.Core.Path.{_≡_}
 use borrow.Author.Needs.{needs}
 use Rattle.transcript.proofs.closed.Statement.{statement}
 use Rattle.transcript.proofs.closed.Tie as tie

@@ -1,5 +1,5 @@
 -- `transcript::is_above` meets its contract. Assumes nothing.
-use mathlib.Core.Path.{_≡_, sym, ap, _∙_}
+use mathlib.Core.Path.{sym, ap}
 use Rattle.rules.specs.Print.{isAbove}
 use borrow.Author.Needs.{needs}
 use Rattle.transcript.proofs.is_above.Statement.{statement}

@@ -1,19 +1,12 @@
 -- `transcript::next_line` meets its contract. Assumes nothing.
 use denote.Ref.{now}
-use mathlib.Core.Path.{_≡_, refl, sym, ap, _∙_, subst, subst⁻¹}
-use mathlib.Core.Bool.{Bool, true, false}
-use Rattle.rules.specs.declared.RecordRead.{RecordRead}
+use mathlib.Core.Path.{_≡_, sym, ap, _∙_}
 use Rattle.rules.specs.declared.RecordRead.the-variants.{Record}
-use Rattle.rules.specs.declared.Answer.{Answer}
-use Rattle.rules.specs.declared.Tick.{Tick}
 use Rattle.rules.specs.Calls.{tickOf}
 use Rattle.rules.specs.Print.{ended, answerText}
-use Rattle.scheduler.specs.declared.State.{State}
-use Rattle.scheduler.specs.State.{Handed}
 use Rattle.print.proofs.Texts.{as-text}
-use Rattle.transcript.specs.declared.Run.{Run}
 use Rattle.transcript.specs.declared.Called.{Called}
-use Rattle.transcript.specs.Pieces.{readIn, stopLine, lineText, goesOn, runAfter, calledOf}
+use Rattle.transcript.specs.Pieces.{readIn, lineText, goesOn, runAfter, calledOf}
 use Rattle.transcript.proofs.Lines.{stops}
 use borrow.Author.Needs.{needs}
 use Rattle.transcript.proofs.next_line.Statement.{statement}

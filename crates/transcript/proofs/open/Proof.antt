@@ -2,13 +2,9 @@
 use denote.Ref.{now}
 use mathlib.Core.Path.{_≡_, sym, ap, _∙_}
 use mathlib.Core.Bool.{true, false}
-use Prim.Native.Nat.{ℕ, _≤_}
-use native.Mathlib.Omega.{arith}
-use lib.ListN.{length}
-use Rattle.rules.specs.declared.NumberRead.{NumberRead}
 use Rattle.rules.specs.Number.{boundedAt}
 use Rattle.rules.specs.Tape.{greatestByte, tableAt}
-use Rattle.rules.specs.Print.{longest, isAbove}
+use Rattle.rules.specs.Print.{isAbove}
 use Rattle.tape.specs.declared.TableRead.{TableRead}
 use Rattle.tape.specs.declared.TapeTable.{TapeTable}
 use Rattle.tape.specs.Tables.{tableIn}

@@ -1,5 +1,5 @@
 -- `transcript::open_line` meets its contract. Assumes nothing.
-use mathlib.Core.Path.{_≡_, sym, ap}
+use mathlib.Core.Path.{sym, ap}
 use Rattle.print.proofs.Texts.{as-text}
 use Rattle.transcript.specs.Pieces.{openText}
 use borrow.Author.Needs.{needs}

@@ -1,17 +1,8 @@
 -- `transcript::piece` meets its contract. Assumes nothing.
 use denote.Ref.{now}
-use borrow.Author.Needs.{needs}
-use Prim.Native.Nat.{ℕ, _+_, _-_, _≤_, _<_}
-use mathlib.Core.Path.{_≡_, refl, sym, ap, _∙_, subst⁻¹}
-use mathlib.Core.Bool.{true, false}
-use mathlib.Core.List.{List, _++_}
-use mathlib.Core.Logic.{_⊎_, inl, inr, ⊎-elim}
+use Prim.Native.Nat.{_-_}
 use native.Mathlib.Omega.{arith}
-use lib.ListN.{length, take}
-use Rattle.scheduler.specs.State.{Handed}
-use Rattle.transcript.specs.declared.Run.{Run}
-use Rattle.transcript.specs.declared.Lined.{Lined}
-use Rattle.transcript.specs.Pieces.{lineMost, restText, leftText, Piece, NextLine}
+use lib.ListN.{length}
 use Rattle.transcript.proofs.Lines.{not-true, not-false, SoFar, so-far-none, so-far-line, so-far-ahead, so-far-stopped, so-far-full}
 use Rattle.transcript.proofs.piece.Statement.{statement}
 use Rattle.transcript.proofs.piece.Tie as tie

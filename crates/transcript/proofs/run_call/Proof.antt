@@ -1,9 +1,7 @@
-use Rattle.rules.specs.declared.Tick.{Tick}
 use Rattle.rules.specs.Calls.{tickOf}
-use Rattle.scheduler.specs.declared.Stepped.{Stepped}
 use Rattle.scheduler.specs.State.{stepOf}
 -- `transcript::run_call` meets its contract. Assumes nothing.
-use mathlib.Core.Path.{_≡_, sym, ap}
+use mathlib.Core.Path.{_≡_}
 use Rattle.transcript.specs.Pieces.{calledOf}
 use borrow.Author.Needs.{needs}
 use Rattle.transcript.proofs.run_call.Statement.{statement}

@@ -1,5 +1,5 @@
 -- `transcript::stopped` meets its contract. Assumes nothing.
-use mathlib.Core.Path.{_≡_, sym, ap}
+use mathlib.Core.Path.{sym, ap}
 use Rattle.print.proofs.Texts.{as-text, none-put}
 use Rattle.transcript.specs.Pieces.{stopLine}
 use borrow.Author.Needs.{needs}
