@@ -1,6 +1,7 @@
-// Runs of calls: a table and calls in words, each printed with its answer.
+// The layer in words: tables and calls, each printed with its answer. For runs only.
 ghost use Rattle.jobs.specs.Listed.{Shaped};
 ghost use Rattle.scheduler.specs.State.{Handed};
+ghost use Rattle.play.specs.Run.{Kept};
 use jobs::JobList;
 use kernel::Found;
 use monitor::Monitor;
@@ -13,6 +14,13 @@ use rules::Tick;
 use rules::Verdict;
 use scheduler::State;
 use table::TaskTable;
+
+// How far the lines went: the state, whether calls may be made on it, and whether an answer stands alone on its line.
+struct Run {
+    state: State,
+    on: bool,
+    bare: bool,
+}
 
 // ---- the list
 
@@ -71,107 +79,6 @@ fn listed(list: JobList, last: Tick, choice: Choice) {
     show::send(&mut out, n);
 }
 
-// ---- calls
-
-// The words in front of an answer; none in a bare run.
-fn asked(out: &mut [u8; ROOM], text: &[u8], bare: bool) -> usize {
-    if bare {
-        return 0;
-    }
-    let n = print::words(out, 0, text);
-    print::words(out, n, b" -> ")
-}
-
-fn told(text: &[u8], bare: bool, at: Tick, answer: Answer) {
-    let mut out = [0u8; ROOM];
-    let n = asked(&mut out, text, bare);
-    let n = print::answer(&mut out, n, at, answer);
-    show::send(&mut out, n);
-}
-
-// A line of a text. 'list' shows the state; an empty line does nothing; otherwise the call is made and printed.
-fn step(s: State, text: &[u8], bare: bool) -> State
-    requires { ⌜ Handed s ⌝ }
-    ensures { λ r. ⌜ Handed r ⌝ }
-{
-    let letter = script::byte_at(text, 0);
-    if letter == 0 {
-        return s;
-    }
-    if letter == b'l' {
-        let choice = picked(s.list, s.table);
-        listed(s.list, s.last, choice);
-        return s;
-    }
-    let call = script::call_at(text, 0);
-    let r = scheduler::call(s, call);
-    let answer = r.answer;
-    told(text, bare, records::tick_of(call), answer);
-    let next = r.state;
-    next
-}
-
-// The calls of a text, one to a line.
-fn steps(s: State, text: &[u8], bare: bool) -> State
-    requires { ⌜ Handed s ⌝ }
-    ensures { λ r. ⌜ Handed r ⌝ }
-{
-    let mut now = s;
-    let mut i = 0;
-    while i < text.len() {
-        let end = script::find(text, i, b'\n');
-        now = step(now, &text[i..end], bare);
-        i = end + 1;
-    }
-    now
-}
-
-// ---- tables
-
-// What the place for the state holds after the check: how many lines and jobs, and the last accepted tick.
-fn fresh(out: &mut [u8; ROOM], at: usize, s: State) -> usize {
-    let n = print::words(out, at, b"lines and jobs ");
-    let n = print::two(out, n, s.table.count as u64, s.list.count as u64);
-    let n = print::words(out, n, b", last tick ");
-    print::number(out, n, s.last.0)
-}
-
-// A table in words, and the check's answer; the state instead for 'state' and a table. An empty line does nothing.
-fn checked(text: &[u8]) {
-    let letter = script::byte_at(text, 0);
-    if letter == 0 {
-        return;
-    }
-    let r = scheduler::check(script::table_of(text));
-    let mut out = [0u8; ROOM];
-    let n = print::words(&mut out, 0, text);
-    let n = print::words(&mut out, n, b" -> ");
-    if letter == b's' {
-        let n = fresh(&mut out, n, r.state);
-        show::send(&mut out, n);
-        return;
-    }
-    let n = print::verdict(&mut out, n, r.verdict);
-    show::send(&mut out, n);
-}
-
-// The check of each table of a text, one to a line.
-pub fn checks(heading: &[u8], tables: &[u8]) {
-    show::heading(heading);
-    let mut i = 0;
-    while i < tables.len() {
-        let end = script::find(tables, i, b'\n');
-        checked(&tables[i..end]);
-        i = end + 1;
-    }
-}
-
-fn refused(verdict: Verdict) {
-    let mut out = [0u8; ROOM];
-    let n = print::verdict(&mut out, 0, verdict);
-    show::send(&mut out, n);
-}
-
 // ---- counts
 
 // What is counted of each task, one behind the other.
@@ -195,40 +102,168 @@ fn counts(monitor: Monitor, tasks: usize) {
     show::send(&mut out, n);
 }
 
-// ---- runs
+// ---- calls
 
-fn titled(heading: &[u8], lines: &[u8]) {
+// The words in front of an answer.
+fn asked(out: &mut [u8; ROOM], text: &[u8]) -> usize {
+    let n = print::words(out, 0, text);
+    print::words(out, n, b" -> ")
+}
+
+fn told(text: &[u8], bare: bool, at: Tick, answer: Answer) {
     let mut out = [0u8; ROOM];
-    show::heading(heading);
-    let n = print::words(&mut out, 0, b"lines ");
-    let n = print::words(&mut out, n, lines);
+    let mut n = 0;
+    if !bare {
+        n = asked(&mut out, text);
+    }
+    n = print::answer(&mut out, n, at, answer);
     show::send(&mut out, n);
 }
 
-// A run over a table: a heading, the lines, each call with its answer, and what is counted at the end.
-pub fn run(heading: &[u8], lines: &[u8], calls: &[u8]) {
-    titled(heading, lines);
-    let r = scheduler::check(script::table_of(lines));
-    let verdict = r.verdict;
-    if verdict.number != 0 {
-        refused(verdict);
-        return;
+// 'list' and 'counts', told by their third letter, show the state; any other line is a call, which is made and printed.
+fn step(s: State, text: &[u8], bare: bool) -> State
+    requires { ⌜ Handed s ⌝ }
+    ensures { λ r. ⌜ Handed r ⌝ }
+{
+    let letter = script::byte_at(text, 2);
+    if letter == b's' {
+        let choice = picked(s.list, s.table);
+        listed(s.list, s.last, choice);
+        return s;
     }
-    let start = r.state;
-    let end = steps(start, calls, false);
-    let monitor = end.monitor;
-    counts(monitor, end.table.count);
+    if letter == b'u' {
+        counts(s.monitor, s.table.count);
+        return s;
+    }
+    let call = script::call_at(text, 0);
+    let r = scheduler::call(s, call);
+    let answer = r.answer;
+    told(text, bare, records::tick_of(call), answer);
+    let next = r.state;
+    next
 }
 
-// A run as document 01 prints it.
-pub fn printed(lines: &[u8], calls: &[u8]) {
-    let r = scheduler::check(script::table_of(lines));
-    let verdict = r.verdict;
-    if verdict.number != 0 {
-        refused(verdict);
+fn no_table(text: &[u8]) {
+    let mut out = [0u8; ROOM];
+    let n = asked(&mut out, text);
+    let n = print::words(&mut out, n, b"no table");
+    show::send(&mut out, n);
+}
+
+// A line on the state, if there is one.
+fn stepped(run: Run, text: &[u8]) -> Run
+    requires { ⌜ Kept run ⌝ }
+    ensures { λ r. ⌜ Kept r ⌝ }
+{
+    if run.on {
+        let state = step(run.state, text, run.bare);
+        return Run {
+            state,
+            on: true,
+            bare: run.bare,
+        };
+    }
+    no_table(text);
+    run
+}
+
+// ---- tables
+
+// What the place for the state holds after the check: how many lines and jobs, and the last accepted tick.
+fn fresh(out: &mut [u8; ROOM], at: usize, s: State) -> usize {
+    let n = print::words(out, at, b"lines and jobs ");
+    let n = print::two(out, n, s.table.count as u64, s.list.count as u64);
+    let n = print::words(out, n, b", last tick ");
+    print::number(out, n, s.last.0)
+}
+
+// 'check 3 12 2, 5 11 2': the check's answer; 'state 3 12 2, 5 11 2': the state instead.
+fn checked(text: &[u8]) {
+    let r = scheduler::check(script::table_of(text));
+    let mut out = [0u8; ROOM];
+    let n = asked(&mut out, text);
+    if script::byte_at(text, 0) == b's' {
+        let n = fresh(&mut out, n, r.state);
+        show::send(&mut out, n);
         return;
     }
-    show::header();
-    let start = r.state;
-    steps(start, calls, true);
+    let n = print::verdict(&mut out, n, r.verdict);
+    show::send(&mut out, n);
+}
+
+fn refused(verdict: Verdict) {
+    let mut out = [0u8; ROOM];
+    let n = print::verdict(&mut out, 0, verdict);
+    show::send(&mut out, n);
+}
+
+// A run from a fresh state: 'lines 3 12 2, 5 11 2' is printed; 'printed 3 12 2, 5 11 2' is not, and its run is bare, with the header above it.
+fn begun(text: &[u8], bare: bool) -> Run
+    ensures { λ r. ⌜ Kept r ⌝ }
+{
+    if !bare {
+        show::say(text);
+    }
+    let r = scheduler::check(script::table_of(text));
+    let verdict = r.verdict;
+    let state = r.state;
+    if verdict.number != 0 {
+        refused(verdict);
+        return Run {
+            state,
+            on: false,
+            bare,
+        };
+    }
+    if bare {
+        show::header();
+    }
+    Run {
+        state,
+        on: true,
+        bare,
+    }
+}
+
+// ---- lines
+
+// A line of words. One that begins with a small letter is answered, any other printed as it stands. 'printed' and 'state' are told by their first letter, the other words by their third.
+fn line_of(run: Run, text: &[u8]) -> Run
+    requires { ⌜ Kept run ⌝ }
+    ensures { λ r. ⌜ Kept r ⌝ }
+{
+    let first = script::byte_at(text, 0);
+    let third = script::byte_at(text, 2);
+    if first < b'a' {
+        show::say(text);
+        return run;
+    }
+    if first == b'p' {
+        return begun(text, true);
+    }
+    if third == b'n' {
+        return begun(text, false);
+    }
+    if first == b's' || third == b'e' {
+        checked(text);
+        return run;
+    }
+    stepped(run, text)
+}
+
+// The lines of a text.
+pub fn lines(text: &[u8]) {
+    let r = scheduler::check(table::empty());
+    let state = r.state;
+    let mut run = Run {
+        state,
+        on: false,
+        bare: false,
+    };
+    let mut i = 0;
+    while i < text.len() {
+        let end = script::find(text, i, b'\n');
+        run = line_of(run, &text[i..end]);
+        i = end + 1;
+    }
 }

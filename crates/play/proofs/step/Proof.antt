@@ -7,14 +7,17 @@ use Rattle.play.proofs.step.Tie as tie
 byte-at-requires : tie.Need-byte-at-requires
 byte-at-requires c κs = search needs
 
-returns : tie.Need-returns
-returns c = search needs
-
 picked-requires : tie.Need-picked-requires
-picked-requires c κs = handed-shaped (c .before .before .before .before .args .s) (c .before .before .before .before .pre)
+picked-requires c κs = handed-shaped (c .before .before .before .args .s) (c .before .before .before .pre)
 
 listed-requires : tie.Need-listed-requires
 listed-requires c κs = search needs
+
+returns : tie.Need-returns
+returns c = search needs
+
+counts-requires : tie.Need-counts-requires
+counts-requires c κs = search needs
 
 returns-2 : tie.Need-returns-2
 returns-2 c = search needs
@@ -22,8 +25,8 @@ returns-2 c = search needs
 call-at-requires : tie.Need-call-at-requires
 call-at-requires c κs = search needs
 
-obey-requires : tie.Need-obey-requires
-obey-requires c κs = search needs
+call-requires : tie.Need-call-requires
+call-requires c κs = search needs
 
 tick-of-requires : tie.Need-tick-of-requires
 tick-of-requires c κs = search needs
@@ -39,12 +42,13 @@ step-spec =
     tie.close
     (tie.spec
     byte-at-requires
-    returns
     picked-requires
     listed-requires
+    returns
+    counts-requires
     returns-2
     call-at-requires
-    obey-requires
+    call-requires
     tick-of-requires
     told-requires
     returns-3)
