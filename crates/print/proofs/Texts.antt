@@ -13,7 +13,7 @@ use borrow.Author.Tests.{lt-ltb, le-ltb, leb-true, leb-false}
 use Rattle.io.specs.Digits.{digits, glyph, Fewest}
 use Rattle.rules.specs.Print.{decimalIn, decimal, commaTasks, tasksText}
 use Rattle.rules.proofs.Lists.{sets-append}
-use Rattle.print.specs.Buffers.{fitting, Put}
+use Rattle.print.specs.Buffers.{fitsAt, Put}
 
 -- ---- one text commaTasks another
 
@@ -25,27 +25,27 @@ cut-both (suc m) (x ∷ p) q = rw suc-sub-suc (ap (λ (r : List ℕ). x ∷ r) (
 -- one text, and then another
 pub then : {a b c : List ℕ} {i j k : ℕ} {p q : List ℕ} → Put a i p b j → Put b j q c k → Put a i (p ++ q) c k
 then {a} {b} {c} {i} {j} {k} {p} {q} x y =
-    let u = fitting a i p in
+    let u = fitsAt a i p in
     let left : length b - j ≡ length a - i - length p = rw (x .is, x .place, length-sets a i u) (omega (arith, length-take (length a - i) p)) in
-    let both : fitting a i (p ++ q) ≡ u ++ fitting b j q = cut-both (length a - i) p q ∙ ap (λ (m : ℕ). u ++ take m q) (sym left) in
+    let both : fitsAt a i (p ++ q) ≡ u ++ fitsAt b j q = cut-both (length a - i) p q ∙ ap (λ (m : ℕ). u ++ take m q) (sym left) in
     record {
       is =
           y .is
-          ∙ ap (λ (l : List ℕ). sets l j (fitting b j q)) (x .is)
-          ∙ ap (λ (n : ℕ). sets (sets a i u) n (fitting b j q)) (x .place)
-          ∙ sets-append a i u (fitting b j q)
+          ∙ ap (λ (l : List ℕ). sets l j (fitsAt b j q)) (x .is)
+          ∙ ap (λ (n : ℕ). sets (sets a i u) n (fitsAt b j q)) (x .place)
+          ∙ sets-append a i u (fitsAt b j q)
           ∙ ap (sets a i) (sym both);
-      place = rw both (omega (arith, y .place, x .place, length-append u (fitting b j q)));
+      place = rw both (omega (arith, y .place, x .place, length-append u (fitsAt b j q)));
     }
 
 -- no text
 pub none-put : (out : List ℕ) (at : ℕ) → Put out at [] out at
-none-put out at = let nothing : fitting out at [] ≡ [] = take-all (length out - at) [] (omega arith) in record { is = rw nothing; place = rw nothing (omega arith) }
+none-put out at = let nothing : fitsAt out at [] ≡ [] = take-all (length out - at) [] (omega arith) in record { is = rw nothing; place = rw nothing (omega arith) }
 
 -- a byte where there is room
 pub byte-put : (out : List ℕ) (at b : ℕ) → at < length out → Put out at (b ∷ []) (set out at b) (at + 1)
 byte-put out at b l =
-    let fits : fitting out at (b ∷ []) ≡ b ∷ [] = take-all (length out - at) (b ∷ []) (omega arith) in
+    let fits : fitsAt out at (b ∷ []) ≡ b ∷ [] = take-all (length out - at) (b ∷ []) (omega arith) in
     record { is = rw fits; place = rw fits }
 
 -- and where there is none

@@ -28,7 +28,7 @@ use Rattle.scheduler.specs.State.{stateOf, Handed, told, stepOf}
 use Rattle.scheduler.proofs.Back.{step-is}
 use Rattle.scheduler.proofs.Handed.{handed-by}
 use Rattle.transcript.specs.declared.Run.{Run}
-use Rattle.print.specs.Buffers.{fitting, Put}
+use Rattle.print.specs.Buffers.{fitsAt, Put}
 use Rattle.transcript.specs.declared.Lined.{Lined}
 use Rattle.transcript.specs.Pieces.{calledOf, readIn, stopLine, lineText, goesOn, runAfter, restText, leftText, bufferRoom, lineMost, NextLine, Piece}
 use Rattle.transcript.specs.Claims.{LineByLine}
@@ -90,7 +90,7 @@ line-ahead tape x old at r new l h = subst⁻¹ (λ (y : Run). (x .at < y .at) �
 pub put-whole : (old new text : List ℕ) (at next : ℕ) → Put old at text new next → at + length text ≤ length old
     → (next ≡ at + length text) × (length new ≡ length old) × (take next new ≡ take at old ++ text)
 put-whole old new text at next p h =
-    let all : fitting old at text ≡ text = take-all (length old - at) text (omega arith) in
+    let all : fitsAt old at text ≡ text = take-all (length old - at) text (omega arith) in
     let place : next ≡ at + length text = p .place ∙ ap (λ (t : List ℕ). at + length t) all in
     let is : new ≡ sets old at text = p .is ∙ ap (sets old at) all in
     let long : at + length text ≡ length (take at old ++ text) = omega (arith, length-append (take at old) text, length-take at old) in
@@ -101,7 +101,7 @@ pub put-most : {old new text : List ℕ} {at next : ℕ} → Put old at text new
 put-most {old} {new} {text} {at} p = omega (arith, p .place, length-take (length old - at) text)
 
 pub put-length : {old new text : List ℕ} {at next : ℕ} → Put old at text new next → length new ≡ length old
-put-length {old} {new} {text} {at} p = ap length (p .is) ∙ length-sets old at (fitting old at text)
+put-length {old} {new} {text} {at} p = ap length (p .is) ∙ length-sets old at (fitsAt old at text)
 
 -- a line is a piece of the print
 pub line-piece : (tape : List ℕ) (x : Run) (old : List ℕ) (at : ℕ) (r : Lined) (new : List ℕ) → Handed (x .state) → at + lineMost ≤ length old

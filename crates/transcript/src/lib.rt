@@ -142,7 +142,7 @@ pub fn open_line(out: &mut [u8; ROOM], at: usize, answer: Opening) -> usize
 // ---- the records
 
 // A record's call is made, and the run goes on behind the record.
-pub fn run_call(run: Run, call: Call, next: usize) -> Called
+fn run_call(run: Run, call: Call, next: usize) -> Called
     requires { ⌜ Handed (run .state) ⌝ }
     ensures { λ r. ⌜ (r ≡ calledOf run call next) × Handed (r .run .state) ⌝ }
 {
