@@ -17,6 +17,7 @@ pub const ROOM: usize = 65536;
 
 // ---- parts of a line: each is put at a place, and gives the place behind it (specs/Buffers)
 
+// On a slice, whose length the test reads.
 fn put(out: &mut [u8], at: usize, b: u8) -> usize
     ensures { λ r. ⌜ Put (now (out .entry)) at (b ∷ []) (now (out .exit)) r ⌝ }
 {
@@ -197,4 +198,18 @@ pub fn tape_line(out: &mut [u8; ROOM], at: usize, refusal: u8, place: usize) -> 
     let next = words(out, next, b" at ");
     let next = number(out, next, place as u64);
     byte(out, next, b'\n')
+}
+
+// ---- out
+
+fn first_bytes(to: i32, out: &[u8], n: usize) -> bool {
+    if n <= out.len() {
+        return io::write_all(to, &out[0..n]);
+    }
+    false
+}
+
+// The first bytes of the buffer go to a descriptor in one write. False where it doesn't take them all.
+pub fn send(to: i32, out: &[u8; ROOM], n: usize) -> bool {
+    first_bytes(to, out, n)
 }

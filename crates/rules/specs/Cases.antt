@@ -23,7 +23,7 @@ use Rattle.rules.specs.declared.RecordRead.{RecordRead}
 use Rattle.rules.specs.declared.Written.{Written}
 use Rattle.rules.specs.declared.Written.the-variants.{Count}
 use Rattle.rules.specs.Number.{bytesOf, numberAt}
-use Rattle.rules.specs.Tape.{tapeOf, recordAt, readTape, whole, written, stored}
+use Rattle.rules.specs.Tape.{linesBytes, tapeOf, recordAt, readTape, whole, written, stored}
 use Rattle.rules.specs.Table.{Table, greatest, verdict, check}
 use Rattle.rules.specs.Jobs.{Job}
 use Rattle.rules.specs.Layer.{fresh, result, choice, answer, inPlaces}
@@ -130,6 +130,14 @@ pub record Cases : Type 0 where
   pub print-no-record : transcript (0x01 ∷ 0x03 ∷ 0x0C ∷ 0x02 ∷ []) ≡ lines ("tick res run due call late" ∷ [])
   pub print-bad-record :
       transcript (0x01 ∷ 0x03 ∷ 0x0C ∷ 0x02 ∷ 0x03 ∷ 0x0C ∷ 0x07 ∷ 0x04 ∷ []) ≡ lines ("tick res run due call late" ∷ "12 2 - - - -" ∷ "tape 22 at 7" ∷ [])
+  pub print-count-32 : transcript (32 ∷ linesBytes (replicate 32 (line 5 1 1))) ≡ lines ("tick res run due call late" ∷ [])
+  pub print-late :
+      transcript (0x01 ∷ 0x03 ∷ 0x0C ∷ 0x02 ∷ 0x01 ∷ 0x00 ∷ 0x00 ∷ 0x01 ∷ 0x00 ∷ 0x00 ∷ 0x00 ∷ 0x80 ∷ 0x08 ∷ [])
+      ≡ lines ("tick res run due call late" ∷ "0 0 0 3 A0 -" ∷ "0 0 0 3 - -" ∷ "1024 0 0 3 - 0,0" ∷ [])
+  pub print-one-named : transcript (0x02 ∷ 0x05 ∷ 0x02 ∷ 0x01 ∷ 0x00 ∷ 0x01 ∷ 0x01 ∷ []) ≡ lines ("table 2 1 -" ∷ [])
+  pub print-none-named : transcript (0x02 ∷ 0x03 ∷ 0x02 ∷ 0x10 ∷ 0x05 ∷ 0x01 ∷ 0x11 ∷ []) ≡ lines ("table 4 - -" ∷ [])
+  pub print-longest : transcript (replicate 65536 33) ≡ lines ("table 1 - -" ∷ [])
+  pub print-too-long : transcript (replicate 65537 33) ≡ lines ("tape 26 at 65536" ∷ [])
   pub e-print : transcript (0x02 ∷ 0x03 ∷ 0x01 ∷ 0x01 ∷ 0x05 ∷ 0x02 ∷ 0x01 ∷ 0x04 ∷ []) ≡ lines ("table 5 0 1" ∷ [])
   pub printed-counts : take 3 ((headRun tableP freshHead printed) .tallies) ≡ tally 1 2 5 ∷ tally 0 1 4 ∷ tally 0 1 3 ∷ []
   pub a-stays-delayed :

@@ -137,8 +137,8 @@ recordsText T b rs = callsText T b (rs .calls) ++ stopText (rs .stop)
 
 -- a tape that can't be read as far as its records; a table that is refused; or one that is accepted, with the place of the first record
 pub data Opening : Type 0 where
-  badTape : (number place : ℕ) → Opening
-  badTable : Verdict → Opening
+  tapeRefused : (number place : ℕ) → Opening
+  tableRefused : Verdict → Opening
   opens : Table → ℕ → Opening
 
 -- how many bytes a tape has at most
@@ -147,36 +147,37 @@ longest = 65536
 
 -- the check's answer
 abbrev pub checkedAs : Table → ℕ → Opening
-checkedAs T p = cond (eqb ((check T) .number) 0) (opens T p) (badTable (check T))
+checkedAs T p = cond (eqb ((check T) .number) 0) (opens T p) (tableRefused (check T))
 
+-- the place is 0 for the table
 abbrev pub tableRead : Read Table → Opening
 tableRead (got T p) = checkedAs T p
-tableRead (no k) = badTape k 0
+tableRead (no k) = tapeRefused k 0
 
 -- a count above 32
-abbrev pub isAbove : NumberRead → Bool
-isAbove (Value n p) = ltb places n
-isAbove (Refused k) = false
+abbrev pub countAbove : NumberRead → Bool
+countAbove (Value n p) = ltb places n
+countAbove (Refused k) = false
 
--- 26 goes before everything; a count above 32 is refused as table 1 as soon as it is read
+-- 26 goes before everything, at the first byte too many; a count above 32 is refused as table 1 as soon as it is read
 unfoldable pub opening : List ℕ → Opening
 opening tape =
-    cond (ltb longest (length tape)) (badTape 26 longest)
-    (cond (isAbove (boundedAt greatestByte tape 0)) (badTable (verdict 1 NoneNamed))
+    cond (ltb longest (length tape)) (tapeRefused 26 longest)
+    (cond (countAbove (boundedAt greatestByte tape 0)) (tableRefused (verdict 1 NoneNamed))
     (tableRead (tableAt tape)))
 
 -- ---- the whole print
 
 -- the header once the table is accepted; otherwise the one line only
 abbrev pub openingText : Opening → List ℕ
-openingText (badTape n p) = ended (tapeText n p)
-openingText (badTable v) = ended (tableText v)
+openingText (tapeRefused n p) = ended (tapeText n p)
+openingText (tableRefused v) = ended (tableText v)
 openingText (opens T p) = ended headerText
 
 -- the records behind an accepted table
 abbrev pub behindText : List ℕ → Opening → List ℕ
-behindText tape (badTape n p) = []
-behindText tape (badTable v) = []
+behindText tape (tapeRefused n p) = []
+behindText tape (tableRefused v) = []
 behindText tape (opens T p) = recordsText T fresh (recordsAt tape p zeroTick)
 
 unfoldable pub transcript : List ℕ → List ℕ

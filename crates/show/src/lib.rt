@@ -14,23 +14,10 @@ pub fn tally(out: &mut [u8; ROOM], at: usize, tally: Tally) -> usize
     print::number(out, next, tally.response)
 }
 
-// The first bytes of a buffer.
-fn first_bytes(out: &[u8], n: usize) -> bool {
-    if n <= out.len() {
-        return io::write_all(STDOUT_FILENO, &out[0..n]);
-    }
-    false
-}
-
-// Whole lines, up to a place.
-fn sent(out: &mut [u8; ROOM], at: usize) -> bool {
-    first_bytes(out, at)
-}
-
 // The line that ends at a place.
 pub fn send(out: &mut [u8; ROOM], at: usize) -> bool {
     let n = print::byte(out, at, b'\n');
-    sent(out, n)
+    print::send(STDOUT_FILENO, out, n)
 }
 
 // A line of words.
@@ -52,5 +39,5 @@ pub fn heading(text: &[u8]) -> bool {
 pub fn header() -> bool {
     let mut out = [0u8; ROOM];
     let n = print::header_line(&mut out, 0);
-    sent(&mut out, n)
+    print::send(STDOUT_FILENO, &out, n)
 }

@@ -1,11 +1,10 @@
 // A text from standard input made into a tape on standard output; or one sentence on standard error.
 ghost use mathlib.Core.Path.{_≡_};
-ghost use Prim.Native.Nat.{_≤_};
 ghost use lib.ListN.{length};
 use libc::STDERR_FILENO;
 use libc::STDIN_FILENO;
 use libc::STDOUT_FILENO;
-use words::MOST_BYTES;
+use tape::MOST_BYTES;
 use words::Made;
 
 // How many bytes a text has at most. That of any tape is shorter.
@@ -18,12 +17,11 @@ fn room() -> [u8; MOST_TEXT + 1]
     [0; MOST_TEXT + 1]
 }
 
-// The first bytes of a tape go out in one write.
-fn send(tape: &[u8; MOST_BYTES], n: usize)
-    requires { ⌜ n ≤ 65536 ⌝ }
-{
-    let bytes = &tape[..];
-    io::write_all(STDOUT_FILENO, &bytes[0..n]);
+// A tape goes out in one write.
+fn send(tape: &[u8; MOST_BYTES], n: usize) {
+    if !print::send(STDOUT_FILENO, tape, n) {
+        io::write_all(STDERR_FILENO, b"standard output takes no more\n");
+    }
 }
 
 // Makes a text into a tape, or says what is wrong with it.

@@ -15,7 +15,7 @@ use Rattle.rules.specs.Table.{Table, verdict, _then_, refuse, check}
 use Rattle.rules.specs.Run.{Head, freshHead, Reached}
 use Rattle.rules.specs.Number.{boundedAt}
 use Rattle.rules.specs.Tape.{greatestByte, zeroTick, Read, got, no, tableAt, recordsAt}
-use Rattle.rules.specs.Print.{ended, headerText, recordsText, Opening, badTape, badTable, opens, longest, tableRead, isAbove, opening, openingText, behindText, transcript}
+use Rattle.rules.specs.Print.{ended, headerText, recordsText, Opening, tapeRefused, tableRefused, opens, longest, tableRead, countAbove, opening, openingText, behindText, transcript}
 use Rattle.rules.proofs.Checked.{keeps-found, found-keeps}
 use Rattle.rules.proofs.Reached.{reached-fresh}
 use Rattle.table.specs.declared.TaskTable.{TaskTable}
@@ -35,8 +35,8 @@ use Rattle.transcript.specs.Claims.{OpensAsPrinted, behindOpen}
 -- ---- an accepted table is one that the check accepts
 
 abbrev pub Checks : Opening → Type 0
-Checks (badTape n p) = Unit {0}
-Checks (badTable v) = Unit {0}
+Checks (tapeRefused n p) = Unit {0}
+Checks (tableRefused v) = Unit {0}
 Checks (opens T p) = (check T) .number ≡ 0
 
 by-test : (P : Opening → Type 0) (u : Bool) (a b : Opening) → P a → (u ≡ false → P b) → P (cond u a b)
@@ -47,7 +47,7 @@ read-checks : (r : Read Table) → Checks (tableRead r)
 read-checks (no k) = tt
 read-checks (got T p) = go (eqb ((check T) .number) 0) refl
   where
-    go : (u : Bool) → eqb ((check T) .number) 0 ≡ u → Checks (cond u (opens T p) (badTable (check T)))
+    go : (u : Bool) → eqb ((check T) .number) 0 ≡ u → Checks (cond u (opens T p) (tableRefused (check T)))
     go true e = eqb-true _ _ e
     go false e = tt
 
@@ -55,7 +55,7 @@ pub opening-checks : (tape : List ℕ) → Checks (opening tape)
 unfolding opening
 opening-checks tape =
     by-test Checks (ltb longest (length tape)) _ _ tt
-    (λ z. by-test Checks (isAbove (boundedAt greatestByte tape 0)) _ _ tt (λ y. read-checks (tableAt tape)))
+    (λ z. by-test Checks (countAbove (boundedAt greatestByte tape 0)) _ _ tt (λ y. read-checks (tableAt tape)))
 
 -- ---- what is handed out
 
@@ -64,8 +64,8 @@ unfolding openedOf
 opened-handed tape = go (opening tape) (opening-checks tape)
   where
     go : (o : Opening) → Checks o → HandedOpen (openedAs o)
-    go (badTape n p) h = λ e. let z : _≡_ {A = ℕ} 0 1 = cc in absurd (omega arith)
-    go (badTable v) h = λ e. let z : _≡_ {A = ℕ} 0 1 = cc in absurd (omega arith)
+    go (tapeRefused n p) h = λ e. let z : _≡_ {A = ℕ} 0 1 = cc in absurd (omega arith)
+    go (tableRefused v) h = λ e. let z : _≡_ {A = ℕ} 0 1 = cc in absurd (omega arith)
     go (opens T p) h = λ e. fresh-handed T h
 
 -- the answer, and what it hands out
@@ -99,11 +99,11 @@ unfolding openedOf opening
 opens-26 tape h = rw (lt-ltb longest (length tape) h)
 
 module _ (tape : List ℕ) (short : length tape ≤ longest) where
-  pub opens-above : isAbove (boundedAt greatestByte tape 0) ≡ true → openedOf tape ≡ record { answer = BadTable (verdict 1 NoneNamed); run = nowhere }
+  pub opens-above : countAbove (boundedAt greatestByte tape 0) ≡ true → openedOf tape ≡ record { answer = BadTable (verdict 1 NoneNamed); run = nowhere }
   unfolding openedOf opening
   opens-above h = rw (le-ltb longest (length tape) short, h)
 
-  module _ (few : isAbove (boundedAt greatestByte tape 0) ≡ false) where
+  module _ (few : countAbove (boundedAt greatestByte tape 0) ≡ false) where
     opens-read : openedOf tape ≡ openedAs (tableRead (tableAt tape))
     unfolding openedOf opening
     opens-read = rw (le-ltb longest (length tape) short, few)
@@ -153,7 +153,7 @@ opens-as-printed tape = go (opening tape) (opening-checks tape)
   where
     go : (o : Opening) → Checks o
         → openingText o ++ behindText tape o ≡ openText ((openedAs o) .answer) ++ behindOpen tape ((openedAs o) .answer) ((openedAs o) .run)
-    go (badTape n p) h = refl
-    go (badTable v) h = refl
+    go (tapeRefused n p) h = refl
+    go (tableRefused v) h = refl
     go (opens T p) h =
         ap (λ (s : List ℕ). ended headerText ++ s) (sym (rest-is T freshHead (reached-fresh T (found-keeps T (keeps-found T h))) tape p zeroTick))

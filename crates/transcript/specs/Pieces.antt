@@ -10,7 +10,7 @@ use Rattle.rules.specs.declared.Call.{Call}
 use Rattle.rules.specs.Calls.{tickOf}
 use Rattle.rules.specs.Run.{freshHead}
 use Rattle.rules.specs.Tape.{zeroTick, recordAt, recordsAt}
-use Rattle.rules.specs.Print.{ended, answerText, tapeText, recordsText, badTape, badTable, opens, opening}
+use Rattle.rules.specs.Print.{ended, answerText, tapeText, recordsText, tapeRefused, tableRefused, opens, opening}
 use Rattle.rules.specs.Print as print
 use Rattle.scheduler.specs.State.{stateOf, tableOf, headOf, Handed, stepOf}
 use Rattle.print.specs.Buffers.{Put}
@@ -29,8 +29,8 @@ nowhere = record { state = stateOf (record { lines = [] }) freshHead; at = 0; pr
 
 -- the fresh state of an accepted table, in front of the first record
 abbrev pub openedAs : print.Opening → Opened
-openedAs (badTape n p) = record { answer = BadTape n p; run = nowhere }
-openedAs (badTable v) = record { answer = BadTable v; run = nowhere }
+openedAs (tapeRefused n p) = record { answer = BadTape n p; run = nowhere }
+openedAs (tableRefused v) = record { answer = BadTable v; run = nowhere }
 openedAs (opens T p) = record { answer = Accepted; run = record { state = stateOf T freshHead; at = p; preceding = zeroTick } }
 
 unfoldable pub openedOf : List ℕ → Opened
@@ -96,11 +96,11 @@ pub record NextLine (tape : List ℕ) (x : Run) (old : List ℕ) (at : ℕ) (r :
 abbrev pub restText : List ℕ → Run → List ℕ
 restText tape x = recordsText (tableOf (x .state)) ((headOf (x .state)) .board) (recordsAt tape (x .at) (x .preceding))
 
--- and where there may be none
+-- what is left behind a piece; nothing behind the last
 abbrev pub leftText : List ℕ → Lined → List ℕ
 leftText tape r = cond (r .more) (restText tape (r .run)) []
 
--- how many bytes the buffer has, and a line at most
+-- how many bytes the buffer has, and how many are kept free for a line; none is longer
 abbrev pub bufferRoom : ℕ
 bufferRoom = 65536
 

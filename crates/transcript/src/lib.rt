@@ -4,7 +4,7 @@ ghost use mathlib.Core.Bool.{true};
 ghost use Prim.Native.Nat.{_+_, _≤_, _<_};
 ghost use lib.ListN.{length};
 ghost use Rattle.rules.specs.declared.Verdict.{Verdict};
-ghost use Rattle.rules.specs.Print.{isAbove};
+ghost use Rattle.rules.specs.Print.{countAbove};
 ghost use Rattle.scheduler.specs.State.{Handed};
 ghost use Rattle.print.specs.Buffers.{Put};
 ghost use Rattle.transcript.specs.Pieces.{nowhere, openedOf, HandedOpen, openText, calledOf, stopLine, bufferRoom, lineMost, NextLine, Piece};
@@ -20,12 +20,10 @@ use rules::RecordRead;
 use rules::Tick;
 use rules::Verdict;
 use scheduler::State;
+use tape::MOST_BYTES;
 use tape::TableRead;
 
-// How many bytes a tape has at most.
-pub const LONGEST: usize = 65536;
-
-// How many bytes a line has at most.
+// How many bytes are kept free for a line. None is longer (specs/Claims, LinesFit).
 const LINE: usize = 1024;
 
 // How a tape opens: its table is accepted, or refused, or the tape is bad, with the refusal's number and the place.
@@ -49,9 +47,9 @@ pub struct Opened {
 }
 
 // What a record's call answered, and the run behind the record.
-pub struct Called {
-    pub answer: Answer,
-    pub run: Run,
+struct Called {
+    answer: Answer,
+    run: Run,
 }
 
 // Whether there may be more, the place behind what was put, and the run.
@@ -65,7 +63,7 @@ pub struct Lined {
 
 // A count of lines above 32.
 fn is_above(read: NumberRead) -> bool
-    ensures { λ r. ⌜ r ≡ isAbove read ⌝ }
+    ensures { λ r. ⌜ r ≡ countAbove read ⌝ }
 {
     match read {
         NumberRead::Value { value, .. } => PLACES < value as usize,
@@ -93,10 +91,10 @@ fn closed(answer: Opening) -> Opened
 pub fn open(tape: &[u8]) -> Opened
     ensures { λ r. ⌜ (r ≡ openedOf (now (tape .entry))) × HandedOpen r ⌝ }
 {
-    if LONGEST < tape.len() {
+    if MOST_BYTES < tape.len() {
         return closed(Opening::BadTape {
             number: 26,
-            place: LONGEST,
+            place: MOST_BYTES,
         });
     }
     if is_above(tape::read_count(tape)) {
@@ -223,18 +221,6 @@ fn piece(tape: &[u8], run: Run, out: &mut [u8; ROOM], at: usize) -> Lined
 
 // ---- to standard output
 
-// The first bytes of a buffer, in one write.
-fn first_bytes(out: &[u8], n: usize) -> bool {
-    if n <= out.len() {
-        return io::write_all(STDOUT_FILENO, &out[0..n]);
-    }
-    false
-}
-
-fn sent(out: &[u8; ROOM], n: usize) -> bool {
-    first_bytes(out, n)
-}
-
 // Prints what the program prints for a tape. False where standard output takes no more.
 pub fn write(tape: &[u8]) -> bool {
     let mut out = io::large_buffer();
@@ -242,12 +228,12 @@ pub fn write(tape: &[u8]) -> bool {
     let answer = opened.answer;
     let mut at = open_line(&mut out, 0, answer);
     let Opening::Accepted = answer else {
-        return sent(&out, at);
+        return print::send(STDOUT_FILENO, &out, at);
     };
     let mut run = opened.run;
     loop {
         let r = piece(tape, run, &mut out, at);
-        if !sent(&out, r.next) {
+        if !print::send(STDOUT_FILENO, &out, r.next) {
             return false;
         }
         if !r.more {

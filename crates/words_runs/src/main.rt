@@ -4,8 +4,8 @@
 ghost use Prim.Native.Nat.{_≤_};
 use libc::STDIN_FILENO;
 use libc::STDOUT_FILENO;
+use tape::MOST_BYTES;
 use words::Cursor;
-use words::MOST_BYTES;
 use words::Made;
 use words::Trouble;
 

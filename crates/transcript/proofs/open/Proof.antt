@@ -4,7 +4,7 @@ use mathlib.Core.Path.{_≡_, sym, ap, _∙_}
 use mathlib.Core.Bool.{true, false}
 use Rattle.rules.specs.Number.{boundedAt}
 use Rattle.rules.specs.Tape.{greatestByte, tableAt}
-use Rattle.rules.specs.Print.{isAbove}
+use Rattle.rules.specs.Print.{countAbove}
 use Rattle.tape.specs.declared.TableRead.{TableRead}
 use Rattle.tape.specs.declared.TapeTable.{TapeTable}
 use Rattle.tape.specs.Tables.{tableIn}
@@ -35,7 +35,7 @@ returns-2 : tie.Need-returns-2
 returns-2 c =
     let k = c .before .before .before in
     let t = now (k .before .before .before .args .tape) in
-    let above : isAbove (boundedAt greatestByte t 0) ≡ true = sym (ap isAbove (k .read-count .ensures)) ∙ sym (c .before .before .is-above .ensures) ∙ c .before .if2 .taken in
+    let above : countAbove (boundedAt greatestByte t 0) ≡ true = sym (ap countAbove (k .read-count .ensures)) ∙ sym (c .before .before .is-above .ensures) ∙ c .before .if2 .taken in
     opened-as t _ (c .closed2 .ensures ∙ sym (opens-above t (k .before .if1 .left) above))
 
 read-table-requires : tie.Need-read-table-requires
@@ -62,7 +62,7 @@ returns-3 c =
     let r = s .before .before .before .before in
     let k = r .before .before .before in
     let t = now (k .before .before .before .args .tape) in
-    let few : isAbove (boundedAt greatestByte t 0) ≡ false = sym (ap isAbove (k .read-count .ensures)) ∙ sym (r .before .before .is-above .ensures) ∙ r .before .if2 .left in
+    let few : countAbove (boundedAt greatestByte t 0) ≡ false = sym (ap countAbove (k .read-count .ensures)) ∙ sym (r .before .before .is-above .ensures) ∙ r .before .if2 .left in
     let told : tableIn (tableAt t) .answer ≡ TableRead.Table (s .before .before .read2 .given .0 .0) = sym (ap (λ (x : TapeTable). x .answer) (r .read-table .ensures)) ∙ s .before .before .read2 .given .1 in
     let checked : s .check .result ≡ checkedOf (tableIn (tableAt t) .table) = s .check .ensures .0 ∙ ap (λ (x : TapeTable). checkedOf (x .table)) (r .read-table .ensures) in
     opened-as t _ (c .closed4 .ensures ∙ sym (opens-refused t (k .before .if1 .left) few _ (s .check .result) told checked (c .before .if3 .taken)))
@@ -72,7 +72,7 @@ returns-4 c =
     let r = c .before .before .before .before in
     let k = r .before .before .before in
     let t = now (k .before .before .before .args .tape) in
-    let few : isAbove (boundedAt greatestByte t 0) ≡ false = sym (ap isAbove (k .read-count .ensures)) ∙ sym (r .before .before .is-above .ensures) ∙ r .before .if2 .left in
+    let few : countAbove (boundedAt greatestByte t 0) ≡ false = sym (ap countAbove (k .read-count .ensures)) ∙ sym (r .before .before .is-above .ensures) ∙ r .before .if2 .left in
     let told : tableIn (tableAt t) .answer ≡ TableRead.Refused (c .before .before .read .given .0 .0) = sym (ap (λ (x : TapeTable). x .answer) (r .read-table .ensures)) ∙ c .before .before .read .given .1 in
     opened-as t _ (c .closed3 .ensures ∙ sym (opens-unread t (k .before .if1 .left) few _ told))
 
@@ -82,7 +82,7 @@ returns-5 c =
     let r = s .before .before .before .before in
     let k = r .before .before .before in
     let t = now (k .before .before .before .args .tape) in
-    let few : isAbove (boundedAt greatestByte t 0) ≡ false = sym (ap isAbove (k .read-count .ensures)) ∙ sym (r .before .before .is-above .ensures) ∙ r .before .if2 .left in
+    let few : countAbove (boundedAt greatestByte t 0) ≡ false = sym (ap countAbove (k .read-count .ensures)) ∙ sym (r .before .before .is-above .ensures) ∙ r .before .if2 .left in
     let told : tableIn (tableAt t) .answer ≡ TableRead.Table (s .before .before .read2 .given .0 .0) = sym (ap (λ (x : TapeTable). x .answer) (r .read-table .ensures)) ∙ s .before .before .read2 .given .1 in
     let checked : s .check .result ≡ checkedOf (tableIn (tableAt t) .table) = s .check .ensures .0 ∙ ap (λ (x : TapeTable). checkedOf (x .table)) (r .read-table .ensures) in
     opened-as t _ (sym (opens-accepted t (k .before .if1 .left) few _ (s .check .result) told checked (c .before .if3 .left)))

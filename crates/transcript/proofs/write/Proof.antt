@@ -29,8 +29,8 @@ open-line-requires c κs = search needs
 enum-told : tie.Need-enum-told Inv-loop μ-loop
 enum-told c = search needs
 
-sent-requires : tie.Need-sent-requires Inv-loop μ-loop
-sent-requires c κs = search needs
+send-requires : tie.Need-send-requires Inv-loop μ-loop
+send-requires c κs = search needs
 
 returns : tie.Need-returns Inv-loop μ-loop
 returns c = search needs
@@ -48,8 +48,8 @@ loop-holds c =
 piece-requires : tie.Need-piece-requires Inv-loop μ-loop
 piece-requires c κs = c .before .loop .inv
 
-sent-requires-2 : tie.Need-sent-requires-2 Inv-loop μ-loop
-sent-requires-2 c κs = search needs
+send-requires-2 : tie.Need-send-requires-2 Inv-loop μ-loop
+send-requires-2 c κs = search needs
 
 returns-2 : tie.Need-returns-2 Inv-loop μ-loop
 returns-2 c = search needs
@@ -78,11 +78,11 @@ write-spec =
     open-requires
     open-line-requires
     enum-told
-    sent-requires
+    send-requires
     returns
     loop-holds
     piece-requires
-    sent-requires-2
+    send-requires-2
     returns-2
     returns-3
     loop-less
