@@ -2,8 +2,8 @@
 ghost use Prim.Native.Nat.{_≤_};
 use libc::STDIN_FILENO;
 use libc::STDOUT_FILENO;
+use rules::Opening;
 use script::ROOM;
-use transcript::Opening;
 
 // ---- a long print, summed up
 

@@ -17,6 +17,8 @@ use Rattle.rules.specs.declared.Answer.{Answer}
 use Rattle.rules.specs.declared.Named.{Named}
 use Rattle.rules.specs.declared.Named.the-variants.{NoneNamed, TheLine, BothLines}
 use Rattle.rules.specs.declared.Verdict.{Verdict}
+use Rattle.rules.specs.declared.Opening.{Opening}
+use Rattle.rules.specs.declared.Opening.the-variants.{Accepted, BadTable, BadTape}
 use Rattle.rules.specs.declared.NumberRead.{NumberRead}
 use Rattle.rules.specs.declared.NumberRead.the-variants.{Value, Refused}
 use Rattle.rules.specs.Words.{places}
@@ -135,24 +137,28 @@ recordsText T b rs = callsText T b (rs .calls) ++ stopText (rs .stop)
 
 -- ---- how a tape opens
 
--- a tape that can't be read as far as its records; a table that is refused; or one that is accepted, with the place of the first record
-pub data Opening : Type 0 where
-  tapeRefused : (number place : ℕ) → Opening
-  tableRefused : Verdict → Opening
-  opens : Table → ℕ → Opening
+-- the answer; where it is Accepted, the table and the place of the first record
+pub record Opened : Type 0 where
+  pub answer : Opening
+  pub table : Table
+  pub first : ℕ
+
+-- nothing to run
+abbrev pub unopened : Opening → Opened
+unopened a = record { answer = a; table = record { lines = [] }; first = 0 }
 
 -- how many bytes a tape has at most
 abbrev pub longest : ℕ
 longest = 65536
 
 -- the check's answer
-abbrev pub checkedAs : Table → ℕ → Opening
-checkedAs T p = cond (eqb ((check T) .number) 0) (opens T p) (tableRefused (check T))
+abbrev pub checkedAs : Table → ℕ → Opened
+checkedAs T p = cond (eqb ((check T) .number) 0) (record { answer = Accepted; table = T; first = p }) (unopened (BadTable (check T)))
 
 -- the place is 0 for the table
-abbrev pub tableRead : Read Table → Opening
+abbrev pub tableRead : Read Table → Opened
 tableRead (got T p) = checkedAs T p
-tableRead (no k) = tapeRefused k 0
+tableRead (no k) = unopened (BadTape k 0)
 
 -- a count above 32
 abbrev pub countAbove : NumberRead → Bool
@@ -160,25 +166,28 @@ countAbove (Value n p) = ltb places n
 countAbove (Refused k) = false
 
 -- 26 goes before everything, at the first byte too many; a count above 32 is refused as table 1 as soon as it is read
-unfoldable pub opening : List ℕ → Opening
+unfoldable pub opening : List ℕ → Opened
 opening tape =
-    cond (ltb longest (length tape)) (tapeRefused 26 longest)
-    (cond (countAbove (boundedAt greatestByte tape 0)) (tableRefused (verdict 1 NoneNamed))
+    cond (ltb longest (length tape)) (unopened (BadTape 26 longest))
+    (cond (countAbove (boundedAt greatestByte tape 0)) (unopened (BadTable (verdict 1 NoneNamed)))
     (tableRead (tableAt tape)))
 
 -- ---- the whole print
 
 -- the header once the table is accepted; otherwise the one line only
 abbrev pub openingText : Opening → List ℕ
-openingText (tapeRefused n p) = ended (tapeText n p)
-openingText (tableRefused v) = ended (tableText v)
-openingText (opens T p) = ended headerText
+openingText Accepted = ended headerText
+openingText (BadTable v) = ended (tableText v)
+openingText (BadTape n p) = ended (tapeText n p)
 
--- the records behind an accepted table
-abbrev pub behindText : List ℕ → Opening → List ℕ
-behindText tape (tapeRefused n p) = []
-behindText tape (tableRefused v) = []
-behindText tape (opens T p) = recordsText T fresh (recordsAt tape p zeroTick)
+-- and what stands behind it: the records of an accepted table
+abbrev pub behindText : Opening → List ℕ → List ℕ
+behindText Accepted records = records
+behindText (BadTable v) records = []
+behindText (BadTape n p) records = []
+
+abbrev pub openedText : List ℕ → Opened → List ℕ
+openedText tape o = openingText (o .answer) ++ behindText (o .answer) (recordsText (o .table) fresh (recordsAt tape (o .first) zeroTick))
 
 unfoldable pub transcript : List ℕ → List ℕ
-transcript tape = openingText (opening tape) ++ behindText tape (opening tape)
+transcript tape = openedText tape (opening tape)

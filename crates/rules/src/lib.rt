@@ -111,6 +111,13 @@ pub enum Written {
     Refused(u8),
 }
 
+// How a tape opens: its table is accepted, or refused with the check's answer, or the tape is bad, with the refusal's number and the place.
+pub enum Opening {
+    Accepted,
+    BadTable(Verdict),
+    BadTape { number: u8, place: usize },
+}
+
 // Does nothing. Its contract is all of specs/Claims, so that a claim without a proof fails the check.
 pub fn rules_hold()
     ensures { λ r. ⌜ Claims ⌝ }

@@ -10,12 +10,16 @@ use borrow.Author.Tests.{lt-ltb, le-ltb, eqb-true, ne-eqb}
 use Rattle.rules.specs.declared.Tick.{Tick}
 use Rattle.rules.specs.declared.Named.the-variants.{NoneNamed}
 use Rattle.rules.specs.declared.Verdict.{Verdict}
+use Rattle.rules.specs.declared.Opening.{Opening}
+use Rattle.rules.specs.declared.Opening.the-variants.{Accepted, BadTable, BadTape}
 use Rattle.rules.specs.Words.{unless}
 use Rattle.rules.specs.Table.{Table, verdict, _then_, refuse, check}
+use Rattle.rules.specs.Layer.{fresh}
 use Rattle.rules.specs.Run.{Head, freshHead, Reached}
 use Rattle.rules.specs.Number.{boundedAt}
 use Rattle.rules.specs.Tape.{greatestByte, zeroTick, Read, got, no, tableAt, recordsAt}
-use Rattle.rules.specs.Print.{ended, headerText, recordsText, Opening, tapeRefused, tableRefused, opens, longest, tableRead, countAbove, opening, openingText, behindText, transcript}
+use Rattle.rules.specs.Print.{ended, headerText, recordsText, unopened, longest, tableRead, countAbove, opening, openingText, behindText, transcript}
+use Rattle.rules.specs.Print
 use Rattle.rules.proofs.Checked.{keeps-found, found-keeps}
 use Rattle.rules.proofs.Reached.{reached-fresh}
 use Rattle.table.specs.declared.TaskTable.{TaskTable}
@@ -28,45 +32,43 @@ use Rattle.scheduler.specs.State.{stateOf, checkedOf}
 use Rattle.scheduler.proofs.Back.{table-back, head-back}
 use Rattle.scheduler.proofs.Checking.{fresh-handed}
 use Rattle.transcript.specs.declared.Opened.{Opened}
-use Rattle.transcript.specs.declared.Opening.the-variants.{Accepted, BadTable, BadTape}
-use Rattle.transcript.specs.Pieces.{nowhere, openedAs, openedOf, HandedOpen, openText, restText}
-use Rattle.transcript.specs.Claims.{OpensAsPrinted, behindOpen}
+use Rattle.transcript.specs.Pieces.{openedAs, openedOf, HandedOpen, restText}
+use Rattle.transcript.specs.Claims.{OpensAsPrinted}
 
 -- ---- an accepted table is one that the check accepts
 
-abbrev pub Checks : Opening → Type 0
-Checks (tapeRefused n p) = Unit {0}
-Checks (tableRefused v) = Unit {0}
-Checks (opens T p) = (check T) .number ≡ 0
+abbrev pub Checks : Print.Opened → Type 0
+Checks o = o .answer ≡ Accepted → (check (o .table)) .number ≡ 0
 
-by-test : (P : Opening → Type 0) (u : Bool) (a b : Opening) → P a → (u ≡ false → P b) → P (cond u a b)
+by-test : (P : Print.Opened → Type 0) (u : Bool) (a b : Print.Opened) → P a → P b → P (cond u a b)
 by-test P true a b f g = f
-by-test P false a b f g = g refl
+by-test P false a b f g = g
+
+no-tape : (n p : ℕ) → Checks (unopened (BadTape n p))
+no-tape n p e = let z : _≡_ {A = ℕ} 0 1 = cc in absurd (omega arith)
+
+no-table : (v : Verdict) → Checks (unopened (BadTable v))
+no-table v e = let z : _≡_ {A = ℕ} 0 1 = cc in absurd (omega arith)
 
 read-checks : (r : Read Table) → Checks (tableRead r)
-read-checks (no k) = tt
+read-checks (no k) = no-tape k 0
 read-checks (got T p) = go (eqb ((check T) .number) 0) refl
   where
-    go : (u : Bool) → eqb ((check T) .number) 0 ≡ u → Checks (cond u (opens T p) (tableRefused (check T)))
-    go true e = eqb-true _ _ e
-    go false e = tt
+    go : (u : Bool) → eqb ((check T) .number) 0 ≡ u → Checks (cond u (record { answer = Accepted; table = T; first = p }) (unopened (BadTable (check T))))
+    go true e h = eqb-true _ _ e
+    go false e h = no-table (check T) h
 
 pub opening-checks : (tape : List ℕ) → Checks (opening tape)
 unfolding opening
 opening-checks tape =
-    by-test Checks (ltb longest (length tape)) _ _ tt
-    (λ z. by-test Checks (countAbove (boundedAt greatestByte tape 0)) _ _ tt (λ y. read-checks (tableAt tape)))
+    by-test Checks (ltb longest (length tape)) _ _ (no-tape 26 longest)
+    (by-test Checks (countAbove (boundedAt greatestByte tape 0)) _ _ (no-table (verdict 1 NoneNamed)) (read-checks (tableAt tape)))
 
 -- ---- what is handed out
 
 pub opened-handed : (tape : List ℕ) → HandedOpen (openedOf tape)
 unfolding openedOf
-opened-handed tape = go (opening tape) (opening-checks tape)
-  where
-    go : (o : Opening) → Checks o → HandedOpen (openedAs o)
-    go (tapeRefused n p) h = λ e. let z : _≡_ {A = ℕ} 0 1 = cc in absurd (omega arith)
-    go (tableRefused v) h = λ e. let z : _≡_ {A = ℕ} 0 1 = cc in absurd (omega arith)
-    go (opens T p) h = λ e. fresh-handed T h
+opened-handed tape e = fresh-handed ((opening tape) .table) (opening-checks tape e)
 
 -- the answer, and what it hands out
 pub opened-as : (tape : List ℕ) (r : Opened) → r ≡ openedOf tape → (r ≡ openedOf tape) × HandedOpen r
@@ -88,18 +90,18 @@ module _ (T : Table) (r : Checked) (c : r ≡ checkedOf (firstLines (T .lines)))
       ∙ ap (λ (k : ℕ). stateOf (unless k (record { lines = [] }) T) freshHead) z
 
 -- of no lines, nothing is handed out
-pub nothing-checked : (r : Checked) (g : TaskTable) → g ≡ packed [] → r ≡ checkedOf g → r .state ≡ nowhere .state
+pub nothing-checked : (r : Checked) (g : TaskTable) → g ≡ packed [] → r ≡ checkedOf g → r .state ≡ stateOf (record { lines = [] }) freshHead
 unfolding checkedOf packed _then_ refuse
 nothing-checked r g e c = ap (λ (z : Checked). z .state) c ∙ ap (λ (t : TaskTable). (checkedOf t) .state) e
 
 -- ---- test by test
 
-pub opens-26 : (tape : List ℕ) → longest < length tape → openedOf tape ≡ record { answer = BadTape 26 longest; run = nowhere }
+pub opens-26 : (tape : List ℕ) → longest < length tape → openedOf tape ≡ openedAs (unopened (BadTape 26 longest))
 unfolding openedOf opening
 opens-26 tape h = rw (lt-ltb longest (length tape) h)
 
 module _ (tape : List ℕ) (short : length tape ≤ longest) where
-  pub opens-above : countAbove (boundedAt greatestByte tape 0) ≡ true → openedOf tape ≡ record { answer = BadTable (verdict 1 NoneNamed); run = nowhere }
+  pub opens-above : countAbove (boundedAt greatestByte tape 0) ≡ true → openedOf tape ≡ openedAs (unopened (BadTable (verdict 1 NoneNamed)))
   unfolding openedOf opening
   opens-above h = rw (le-ltb longest (length tape) short, h)
 
@@ -109,24 +111,24 @@ module _ (tape : List ℕ) (short : length tape ≤ longest) where
     opens-read = rw (le-ltb longest (length tape) short, few)
 
     -- the reader's answer tells what was read
-    pub opens-unread : (k : ℕ) → (tableIn (tableAt tape)) .answer ≡ TableRead.Refused k → openedOf tape ≡ record { answer = BadTape k 0; run = nowhere }
+    pub opens-unread : (k : ℕ) → (tableIn (tableAt tape)) .answer ≡ TableRead.Refused k → openedOf tape ≡ openedAs (unopened (BadTape k 0))
     opens-unread k h = opens-read ∙ go (tableAt tape) h
       where
-        go : (r : Read Table) → (tableIn r) .answer ≡ TableRead.Refused k → openedAs (tableRead r) ≡ record { answer = BadTape k 0; run = nowhere }
+        go : (r : Read Table) → (tableIn r) .answer ≡ TableRead.Refused k → openedAs (tableRead r) ≡ openedAs (unopened (BadTape k 0))
         go (no j) e = let same : j ≡ k = cc in rw same
         go (got T p) e = let z : _≡_ {A = ℕ} 0 1 = cc in absurd (omega arith)
 
     -- and the check's answer whether its table is accepted
     module _ (n : ℕ) (r : Checked) (told : (tableIn (tableAt tape)) .answer ≡ TableRead.Table n) (checked : r ≡ checkedOf ((tableIn (tableAt tape)) .table)) where
-      pub opens-refused : (r .verdict .number ≡ 0 → ⊥) → openedOf tape ≡ record { answer = BadTable (r .verdict); run = nowhere }
+      pub opens-refused : (r .verdict .number ≡ 0 → ⊥) → openedOf tape ≡ openedAs (unopened (BadTable (r .verdict)))
       opens-refused z = opens-read ∙ go (tableAt tape) told checked
         where
           go : (x : Read Table) → (tableIn x) .answer ≡ TableRead.Table n → r ≡ checkedOf ((tableIn x) .table)
-              → openedAs (tableRead x) ≡ record { answer = BadTable (r .verdict); run = nowhere }
+              → openedAs (tableRead x) ≡ openedAs (unopened (BadTable (r .verdict)))
           go (no k) e c = let z : _≡_ {A = ℕ} 0 1 = cc in absurd (omega arith)
           go (got T p) e c =
               let v : r .verdict ≡ check T = verdict-is T r c in
-              rw (ne-eqb ((check T) .number) 0 (λ y. z (ap (λ (w : Verdict). w .number) v ∙ y))) (ap (λ (w : Verdict). record { answer = BadTable w; run = nowhere }) (sym v))
+              rw (ne-eqb ((check T) .number) 0 (λ y. z (ap (λ (w : Verdict). w .number) v ∙ y))) (ap (λ (w : Verdict). openedAs (unopened (BadTable w))) (sym v))
 
       pub opens-accepted : r .verdict .number ≡ 0 → openedOf tape ≡ record { answer = Accepted; run = record { state = r .state; at = n; preceding = zeroTick } }
       opens-accepted z = opens-read ∙ go (tableAt tape) told checked
@@ -149,11 +151,16 @@ rest-is T h r tape at prev = λ i. recordsText (table-back T h i) ((head-back T 
 
 pub opens-as-printed : OpensAsPrinted
 unfolding transcript openedOf
-opens-as-printed tape = go (opening tape) (opening-checks tape)
+opens-as-printed tape = go ((opening tape) .answer) (opening-checks tape)
   where
-    go : (o : Opening) → Checks o
-        → openingText o ++ behindText tape o ≡ openText ((openedAs o) .answer) ++ behindOpen tape ((openedAs o) .answer) ((openedAs o) .run)
-    go (tapeRefused n p) h = refl
-    go (tableRefused v) h = refl
-    go (opens T p) h =
-        ap (λ (s : List ℕ). ended headerText ++ s) (sym (rest-is T freshHead (reached-fresh T (found-keeps T (keeps-found T h))) tape p zeroTick))
+    o : Print.Opened
+    o = opening tape
+
+    go : (a : Opening) → (a ≡ Accepted → (check (o .table)) .number ≡ 0)
+        → openingText a ++ behindText a (recordsText (o .table) fresh (recordsAt tape (o .first) zeroTick))
+        ≡ openingText a ++ behindText a (restText tape ((openedAs o) .run))
+    go Accepted h =
+        ap (λ (s : List ℕ). ended headerText ++ s)
+        (sym (rest-is (o .table) freshHead (reached-fresh (o .table) (found-keeps (o .table) (keeps-found (o .table) (h refl)))) tape (o .first) zeroTick))
+    go (BadTable v) h = refl
+    go (BadTape n p) h = refl

@@ -8,23 +8,16 @@ use Rattle.rules.specs.declared.Call.{Call}
 use Rattle.rules.specs.Table.{Table, fine, check}
 use Rattle.rules.specs.Layer.{fresh}
 use Rattle.rules.specs.Tape.{zeroTick, tapeOf}
-use Rattle.rules.specs.Print.{ended, headerText, callsText, longest, transcript}
+use Rattle.rules.specs.Print.{ended, headerText, callsText, longest, openingText, behindText, transcript}
 use Rattle.tape.specs.Claims.{TableFits, RecordsFit}
 use Rattle.scheduler.specs.State.{Handed}
-use Rattle.transcript.specs.declared.Opening.{Opening}
-use Rattle.transcript.specs.declared.Opening.the-variants.{Accepted, BadTable, BadTape}
 use Rattle.transcript.specs.declared.Run.{Run}
-use Rattle.transcript.specs.Pieces.{openedOf, openText, readIn, lineText, goesOn, runAfter, restText, lineMost}
+use Rattle.transcript.specs.Pieces.{openedOf, readIn, lineText, goesOn, runAfter, restText, lineMost}
 
--- what stands behind the opening's line
-abbrev pub behindOpen : List ℕ → Opening → Run → List ℕ
-behindOpen tape Accepted x = restText tape x
-behindOpen tape (BadTable v) x = []
-behindOpen tape (BadTape n p) x = []
-
--- the whole print is the opening's line, and what the records from the first one on print
+-- the whole print is the opening's line, and behind it what the records from the first one on print, if the table is accepted
 abbrev pub OpensAsPrinted : Type 0
-OpensAsPrinted = (tape : List ℕ) → transcript tape ≡ openText ((openedOf tape) .answer) ++ behindOpen tape ((openedOf tape) .answer) ((openedOf tape) .run)
+OpensAsPrinted =
+    (tape : List ℕ) → let o = openedOf tape in transcript tape ≡ openingText (o .answer) ++ behindText (o .answer) (restText tape (o .run))
 
 -- what the records print is the next one's line, and what those behind it print
 abbrev pub LineByLine : Type 0

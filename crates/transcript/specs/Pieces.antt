@@ -10,12 +10,11 @@ use Rattle.rules.specs.declared.Call.{Call}
 use Rattle.rules.specs.Calls.{tickOf}
 use Rattle.rules.specs.Run.{freshHead}
 use Rattle.rules.specs.Tape.{zeroTick, recordAt, recordsAt}
-use Rattle.rules.specs.Print.{ended, answerText, tapeText, recordsText, tapeRefused, tableRefused, opens, opening}
+use Rattle.rules.specs.Print.{ended, answerText, tapeText, recordsText, opening}
 use Rattle.rules.specs.Print as print
 use Rattle.scheduler.specs.State.{stateOf, tableOf, headOf, Handed, stepOf}
 use Rattle.print.specs.Buffers.{Put}
-use Rattle.transcript.specs.declared.Opening.{Opening}
-use Rattle.transcript.specs.declared.Opening.the-variants.{Accepted, BadTable, BadTape}
+use Rattle.rules.specs.declared.Opening.the-variants.{Accepted}
 use Rattle.transcript.specs.declared.Run.{Run}
 use Rattle.transcript.specs.declared.Opened.{Opened}
 use Rattle.transcript.specs.declared.Called.{Called}
@@ -23,15 +22,9 @@ use Rattle.transcript.specs.declared.Lined.{Lined}
 
 -- ---- how a tape opens
 
--- nothing to run: the empty state of no lines
-abbrev pub nowhere : Run
-nowhere = record { state = stateOf (record { lines = [] }) freshHead; at = 0; preceding = zeroTick }
-
--- the fresh state of an accepted table, in front of the first record
-abbrev pub openedAs : print.Opening → Opened
-openedAs (tapeRefused n p) = record { answer = BadTape n p; run = nowhere }
-openedAs (tableRefused v) = record { answer = BadTable v; run = nowhere }
-openedAs (opens T p) = record { answer = Accepted; run = record { state = stateOf T freshHead; at = p; preceding = zeroTick } }
+-- a fresh state, in front of the first record; of no lines where the table isn't accepted
+abbrev pub openedAs : print.Opened → Opened
+openedAs o = record { answer = o .answer; run = record { state = stateOf (o .table) freshHead; at = o .first; preceding = zeroTick } }
 
 unfoldable pub openedOf : List ℕ → Opened
 openedOf tape = openedAs (opening tape)
@@ -39,12 +32,6 @@ openedOf tape = openedAs (opening tape)
 -- what a tape opens with counts as handed out where its table is accepted
 abbrev pub HandedOpen : Opened → Type 0
 HandedOpen o = o .answer ≡ Accepted → Handed (o .run .state)
-
--- the opening by its answer alone
-abbrev pub openText : Opening → List ℕ
-openText Accepted = ended print.headerText
-openText (BadTable v) = ended (print.tableText v)
-openText (BadTape n p) = ended (tapeText n p)
 
 -- ---- record by record
 

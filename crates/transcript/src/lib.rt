@@ -1,13 +1,11 @@
 // What document 01's program prints for a tape: read, checked, run and printed, piece by piece.
 ghost use mathlib.Core.Path.{_≡_};
-ghost use mathlib.Core.Bool.{true};
-ghost use Prim.Native.Nat.{_+_, _≤_, _<_};
+ghost use Prim.Native.Nat.{_+_, _≤_};
 ghost use lib.ListN.{length};
-ghost use Rattle.rules.specs.declared.Verdict.{Verdict};
-ghost use Rattle.rules.specs.Print.{countAbove};
+ghost use Rattle.rules.specs.Print.{unopened, countAbove, openingText};
 ghost use Rattle.scheduler.specs.State.{Handed};
 ghost use Rattle.print.specs.Buffers.{Put};
-ghost use Rattle.transcript.specs.Pieces.{nowhere, openedOf, HandedOpen, openText, calledOf, stopLine, bufferRoom, lineMost, NextLine, Piece};
+ghost use Rattle.transcript.specs.Pieces.{openedAs, openedOf, HandedOpen, calledOf, stopLine, bufferRoom, lineMost, NextLine, Piece};
 ghost use Rattle.transcript.specs.Claims.{Claims};
 use libc::STDOUT_FILENO;
 use print::ROOM;
@@ -15,6 +13,7 @@ use rules::Answer;
 use rules::Call;
 use rules::Named;
 use rules::NumberRead;
+use rules::Opening;
 use rules::PLACES;
 use rules::RecordRead;
 use rules::Tick;
@@ -25,13 +24,6 @@ use tape::TableRead;
 
 // How many bytes are kept free for a line. None is longer (specs/Claims, LinesFit).
 const LINE: usize = 1024;
-
-// How a tape opens: its table is accepted, or refused, or the tape is bad, with the refusal's number and the place.
-pub enum Opening {
-    Accepted,
-    BadTable(Verdict),
-    BadTape { number: u8, place: usize },
-}
 
 // How far a tape was run: the state, the place of the next record, and the tick of the one before it.
 pub struct Run {
@@ -73,7 +65,7 @@ fn is_above(read: NumberRead) -> bool
 
 // Nothing to run.
 fn closed(answer: Opening) -> Opened
-    ensures { λ r. ⌜ r ≡ record { answer = answer; run = nowhere } ⌝ }
+    ensures { λ r. ⌜ r ≡ openedAs (unopened answer) ⌝ }
 {
     let r = scheduler::check(table::empty());
     let state = r.state;
@@ -128,7 +120,7 @@ pub fn open(tape: &[u8]) -> Opened
 
 // The header once the table is accepted; otherwise the one line only.
 pub fn open_line(out: &mut [u8; ROOM], at: usize, answer: Opening) -> usize
-    ensures { λ r. ⌜ Put (now (out .entry)) at (openText answer) (now (out .exit)) r ⌝ }
+    ensures { λ r. ⌜ Put (now (out .entry)) at (openingText answer) (now (out .exit)) r ⌝ }
 {
     match answer {
         Opening::Accepted => print::header_line(out, at),

@@ -4,9 +4,10 @@ use Prim.Native.Nat.{_+_, _-_, _≤_}
 use mathlib.Core.Path.{_≡_, sym, ap, _∙_}
 use native.Mathlib.Omega.{arith}
 use lib.ListN.{length}
+use Rattle.rules.specs.Print.{openingText}
 use Rattle.scheduler.specs.State.{Handed}
-use Rattle.transcript.specs.declared.Opening.{Opening}
-use Rattle.transcript.specs.Pieces.{openText, bufferRoom, lineMost}
+use Rattle.rules.specs.declared.Opening.{Opening}
+use Rattle.transcript.specs.Pieces.{bufferRoom, lineMost}
 use Rattle.transcript.proofs.Lines.{not-false, put-most, put-length}
 use Rattle.transcript.proofs.write.Statement.{statement}
 use Rattle.transcript.proofs.write.Tie as tie
@@ -39,7 +40,7 @@ loop-holds : tie.Need-loop-holds Inv-loop μ-loop
 loop-holds c =
     let o = c .before .before .before in
     let e = c .before .enum-told .given .1 in
-    let long : length (openText (o .before .before .«open» .result .answer)) ≡ 27 = ap (λ (x : Opening). length (openText x)) e in (
+    let long : length (openingText (o .before .before .«open» .result .answer)) ≡ 27 = ap (λ (x : Opening). length (openingText x)) e in (
       o .before .before .«open» .ensures .1 e,
       put-length (o .open-line .ensures) ∙ sym (o .before .before .before .large-buffer .ensures),
       omega (arith, put-most (o .open-line .ensures), long),
