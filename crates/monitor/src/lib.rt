@@ -11,6 +11,7 @@ use rules::Tally;
 const MOST: u32 = 4294967295;
 
 // A tally for each task number.
+#[repr(C)]
 pub struct Monitor {
     pub tallies: [Tally; PLACES],
 }

@@ -136,7 +136,7 @@ fn step(s: State, text: &[u8], bare: bool) -> State
         return s;
     }
     let call = script::call_at(text, 0);
-    let r = scheduler::call(s, call);
+    let r = lent::call(s, call);
     let answer = r.answer;
     told(text, bare, records::tick_of(call), answer);
     let next = r.state;
@@ -179,7 +179,7 @@ fn fresh(out: &mut [u8; ROOM], at: usize, s: State) -> usize {
 
 // 'check 3 12 2, 5 11 2': the check's answer; 'state 3 12 2, 5 11 2': the state instead.
 fn checked(text: &[u8]) {
-    let r = scheduler::check(script::table_of(text));
+    let r = lent::check(script::table_of(text));
     let mut out = [0u8; ROOM];
     let n = asked(&mut out, text);
     if script::byte_at(text, 0) == b's' {
@@ -204,7 +204,7 @@ fn begun(text: &[u8], bare: bool) -> Run
     if !bare {
         show::say(text);
     }
-    let r = scheduler::check(script::table_of(text));
+    let r = lent::check(script::table_of(text));
     let verdict = r.verdict;
     let state = r.state;
     if verdict.number != 0 {

@@ -5,12 +5,15 @@ ghost use Rattle.rules.specs.Claims.{Claims};
 pub const PLACES: usize = 32;
 
 // A position in time.
+#[repr(C)]
 pub struct Tick(pub u64);
 
 // A length of time. It is only ever added to a tick, never compared with one.
+#[repr(C)]
 pub struct Span(pub u64);
 
 // A line of the task table. Its place from 0 is its task number.
+#[repr(C)]
 pub struct Line {
     pub deadline: Span,
     pub priority: u8,
@@ -66,6 +69,7 @@ pub enum Choice {
 }
 
 // Newly late jobs: their count, and their tasks in 32 places, unused places 0.
+#[repr(C)]
 pub struct Late {
     pub count: u8,
     pub tasks: [u8; PLACES],
@@ -80,6 +84,7 @@ pub struct Answer {
 }
 
 // What is counted of a task: late jobs, ended jobs, and the greatest response.
+#[repr(C)]
 pub struct Tally {
     pub late: u32,
     pub ended: u32,

@@ -4,8 +4,6 @@ use mathlib.Core.Path.{_≡_, refl, sym, ap, _∙_, subst⁻¹}
 use mathlib.Core.List.{List, [], _∷_, map, append-nil}
 use native.Mathlib.Omega.{arith}
 use native.Mathlib.Decide.{decLe}
-use lib.ListN.{length, length-append, length-replicate}
-use lib.Seq.{take-all, length-take-le}
 use Rattle.rules.specs.declared.Answer.{Answer}
 use Rattle.rules.specs.declared.Line.{Line}
 use Rattle.rules.specs.declared.Verdict.{Verdict}
@@ -24,12 +22,13 @@ use Rattle.rules.proofs.Demand3.{Both, fresh-both, next-both, results-alike, sa
 use Rattle.rules.proofs.Reached.{reached-fresh, reached-next}
 use Rattle.table.specs.declared.TaskTable.{TaskTable}
 use Rattle.table.specs.Lines.{packed, linesIn, given}
-use Rattle.table.proofs.Packed.{kept-lines, count-packed}
+use Rattle.table.proofs.Packed.{kept-lines, count-packed, packed-length}
+use Rattle.table.proofs.Laws.{given-size}
 use Rattle.scheduler.specs.declared.State.{State}
 use Rattle.scheduler.specs.declared.Stepped.{Stepped}
-use Rattle.scheduler.specs.State.{stateOf, Handed, checkedOf, told, stepOf}
+use Rattle.scheduler.specs.State.{stateOf, Handed, checkedFor, checkedOf, told, stepOf}
 use Rattle.scheduler.specs.declared.Checked.{Checked}
-use Rattle.scheduler.specs.Claims.{ReadsBack, CopyOf, freshFor, AnswersEvery, RefusedUnchanged, checked, stateAfter, answered, plainResults, plainChoices, RunsAsRuled, Claims}
+use Rattle.scheduler.specs.Claims.{ReadsBack, CopyOf, AnswersEvery, RefusedUnchanged, checked, stateAfter, answered, plainResults, plainChoices, RunsAsRuled, Claims}
 use Rattle.scheduler.proofs.Back.{table-back, head-back, step-is}
 use Rattle.scheduler.proofs.Handed.{handed-by}
 
@@ -42,10 +41,7 @@ reads-back T h r = record { table = table-back T h; head = head-back T h r }
 over : (U : Table) → places < size U → check U ≡ verdict 1 NoneNamed
 over U m = check-exact U (verdict 1 NoneNamed) .1 (row-1 (λ w. omega (arith, w .1)))
 
-abbrev toldFor : Table → Checked
-toldFor U = record { state = freshFor U; verdict = check U }
-
-told-over : (U : Table) → places < size U → toldFor U ≡ record { state = stateOf (record { lines = [] }) freshHead; verdict = verdict 1 NoneNamed }
+told-over : (U : Table) → places < size U → checkedFor U ≡ record { state = stateOf (record { lines = [] }) freshHead; verdict = verdict 1 NoneNamed }
 told-over U m = λ i. record { state = stateOf (unless ((over U m i) .number) (record { lines = [] }) U) freshHead; verdict = over U m i }
 
 -- a copy gives its table, or one of as many lines
@@ -53,18 +49,13 @@ module _ (T : Table) (g : TaskTable) (c : CopyOf T g) where
   copy-few : size T ≤ places → given g ≡ T
   copy-few m =
       let z : g .count - places ≡ 0 = omega (arith, c .counted) in
-      ap (λ (ls : List Line). record { lines = ls }) (rw z (append-nil (linesIn g)) ∙ c .copied ∙ take-all places (T .lines) m)
+      ap (λ (ls : List Line). record { lines = ls }) (rw z (append-nil (linesIn g)) ∙ c .copied m)
 
-  copy-size : places < size T → size (given g) ≡ size T
-  copy-size m =
-      let n : length (linesIn g) ≡ places = ap length (c .copied) ∙ length-take-le places (T .lines) (omega arith) in
-      simp (length-append, length-replicate) (omega (arith, n, c .counted))
-
-  copy-told : Dec (size T ≤ places) → toldFor (given g) ≡ toldFor T
-  copy-told (yes m) = ap toldFor (copy-few m)
+  copy-told : Dec (size T ≤ places) → checkedFor (given g) ≡ checkedFor T
+  copy-told (yes m) = ap checkedFor (copy-few m)
   copy-told (no m) =
       let b : places < size T = omega arith in
-      told-over (given g) (omega (arith, copy-size b)) ∙ sym (told-over T b)
+      told-over (given g) (omega (arith, given-size g (c .placed), c .counted)) ∙ sym (told-over T b)
 
 answers-every : AnswersEvery
 unfolding checkedOf
@@ -75,20 +66,23 @@ answers-every T g c =
       hands-out = λ a. subst⁻¹ Handed (ap (λ (z : Checked). z .state) e) (fresh-for a);
     }
   where
-    fresh-for : check T ≡ fine → Handed (freshFor T)
+    fresh-for : check T ≡ fine → Handed ((checkedFor T) .state)
     fresh-for a =
         subst⁻¹ (λ (v : Verdict). Handed (stateOf (unless (v .number) (record { lines = [] }) T) freshHead)) a
         (record { table = T; head = freshHead; reached = reached-fresh T a; is = refl })
 
 -- a table that is laid out is a copy of itself
 copy-packed : (T : Table) → size T ≤ places → CopyOf T (packed (T .lines))
-copy-packed T m = record { counted = count-packed (T .lines); copied = kept-lines (T .lines) ∙ sym (take-all places (T .lines) m) }
+copy-packed T m = record { counted = count-packed (T .lines); placed = packed-length (T .lines) m; copied = λ _. kept-lines (T .lines) }
 
-checked-is : (T : Table) → check T ≡ fine → checked T ≡ stateOf T freshHead
-checked-is T a =
+-- the check of an accepted table, laid out, gives what the check of the table does
+pub checked-fresh : (T : Table) → check T ≡ fine → checked T ≡ (checkedFor T) .state
+checked-fresh T a =
     let m = keeps-found T (ap (λ (v : Verdict). v .number) a) .passes .counted .1 in
     ap (λ (z : Checked). z .state) (answers-every T (packed (T .lines)) (copy-packed T m) .gives)
-    ∙ ap (λ (v : Verdict). stateOf (unless (v .number) (record { lines = [] }) T) freshHead) a
+
+checked-is : (T : Table) → check T ≡ fine → checked T ≡ stateOf T freshHead
+checked-is T a = checked-fresh T a ∙ ap (λ (v : Verdict). stateOf (unless (v .number) (record { lines = [] }) T) freshHead) a
 
 -- ---- refused calls
 

@@ -1,12 +1,12 @@
 -- All that is claimed of the check and the calls beside their own promises; proofs/Claims.antt proves it. Assumes nothing.
 use mathlib.Core.Path.{_≡_}
 use mathlib.Core.List.{List, [], _∷_, map}
-use Prim.Native.Nat.{ℕ}
-use lib.ListN.{take}
+use Prim.Native.Nat.{ℕ, _≤_}
+use lib.ListN.{length}
 use Rattle.rules.specs.declared.Answer.{Answer}
 use Rattle.rules.specs.declared.Call.{Call}
 use Rattle.rules.specs.declared.Choice.{Choice}
-use Rattle.rules.specs.Words.{unless, places}
+use Rattle.rules.specs.Words.{places}
 use Rattle.rules.specs.Table.{Table, size, fine, check}
 use Rattle.rules.specs.Layer.{fresh}
 use Rattle.rules.specs.Plain.{Plain, start, plainResult, plainChoice, plainNext}
@@ -14,7 +14,7 @@ use Rattle.rules.specs.Run.{answers, Head, freshHead, headRun, Reached}
 use Rattle.table.specs.declared.TaskTable.{TaskTable}
 use Rattle.table.specs.Lines.{packed, linesIn}
 use Rattle.scheduler.specs.declared.State.{State}
-use Rattle.scheduler.specs.State.{stateOf, tableOf, headOf, Handed, checkedOf, stepOf}
+use Rattle.scheduler.specs.State.{stateOf, tableOf, headOf, Handed, checkedFor, checkedOf, stepOf}
 
 -- table and head, the kernel's ready queue with it, can be read back from a state
 pub record Back (T : Table) (h : Head) : Type 0 where
@@ -24,18 +24,15 @@ pub record Back (T : Table) (h : Head) : Type 0 where
 abbrev pub ReadsBack : Type 0
 ReadsBack = (T : Table) (h : Head) → Reached T h → Back T h
 
--- g holds a table: its first 32 lines and its true count, whatever stands behind them
+-- g holds a table: its true count and, if each has a place, its lines
 pub record CopyOf (T : Table) (g : TaskTable) : Type 0 where
   pub counted : g .count ≡ size T
-  pub copied : linesIn g ≡ take places (T .lines)
-
--- a fresh state of a table that is accepted; after a refusal an empty one of no lines
-abbrev pub freshFor : Table → State
-freshFor T = stateOf (unless ((check T) .number) (record { lines = [] }) T) freshHead
+  pub placed : length (g .lines) ≡ places
+  pub copied : size T ≤ places → linesIn g ≡ T .lines
 
 -- every table, accepted or refused, gets the rule-book's answer; a state is handed out where that is 0
 pub record Answered (T : Table) (g : TaskTable) : Type 0 where
-  pub gives : checkedOf g ≡ record { state = freshFor T; verdict = check T }
+  pub gives : checkedOf g ≡ checkedFor T
   pub hands-out : check T ≡ fine → Handed ((checkedOf g) .state)
 
 abbrev pub AnswersEvery : Type 0

@@ -63,13 +63,17 @@ headOf s = record { board = boardOf s; tallies = s .monitor .tallies }
 
 -- ---- the check
 
--- a fresh state of the table that was given; after a refusal, of no lines
-unfoldable pub checkedOf : TaskTable → Checked
-checkedOf g =
+-- the answer, and a fresh state of an accepted table; after a refusal an empty one of no lines
+abbrev pub checkedFor : Table → Checked
+checkedFor T =
     record {
-      state = stateOf (unless ((check (given g)) .number) (record { lines = [] }) (given g)) freshHead;
-      verdict = check (given g);
+      state = stateOf (unless ((check T) .number) (record { lines = [] }) T) freshHead;
+      verdict = check T;
     }
+
+-- of the table that was given
+unfoldable pub checkedOf : TaskTable → Checked
+checkedOf g = checkedFor (given g)
 
 -- ---- the calls
 

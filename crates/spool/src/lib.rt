@@ -205,7 +205,7 @@ fn write_one(text: &[u8], buf: &mut [u8]) -> Written {
         _ => {
             let told = script::lines_of(text);
             let lines = told.lines;
-            tape::write_table(lines, told.count, buf)
+            lent::write_table(lines, told.count, buf)
         }
     }
 }

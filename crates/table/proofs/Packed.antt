@@ -1,8 +1,9 @@
 -- A table as it is kept has the lines that it was given. Assumes nothing.
-use Prim.Native.Nat.{ℕ, zero, suc, _-_}
+use Prim.Native.Nat.{ℕ, zero, suc, _-_, _≤_}
 use mathlib.Core.Path.{_≡_, refl}
 use mathlib.Core.List.{List, [], _∷_, _++_}
-use lib.ListN.{length, getD, replicate}
+use native.Mathlib.Omega.{arith}
+use lib.ListN.{length, getD, replicate, length-append, length-replicate}
 use lib.Seq.{take-append-seam}
 use Rattle.rules.specs.Words.{places}
 use Rattle.rules.specs.declared.Line.{Line}
@@ -29,3 +30,8 @@ kept-lines ls = take-append-seam ls (replicate (places - length ls) noLine)
 pub count-packed : (ls : List Line) → packed ls .count ≡ length ls
 unfolding packed
 count-packed ls = refl
+
+-- as many places as there are
+pub packed-length : (ls : List Line) → length ls ≤ places → length (packed ls .lines) ≡ places
+unfolding packed
+packed-length ls h = simp (length-append, length-replicate) (omega arith)

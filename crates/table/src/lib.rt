@@ -6,6 +6,7 @@ ghost use Prim.Native.Nat.{_≤_};
 ghost use Rattle.rules.specs.Words.{places};
 ghost use Rattle.rules.specs.Table.{noLine, fine, breaks, check, rangesFrom, limits, pairsFrom};
 ghost use Rattle.table.specs.Lines.{packed, lineAt, given, linesIn, lineRefusal};
+ghost use Rattle.table.specs.Copy.{fewOf, begunOf, pushedOf};
 use rules::Line;
 use rules::Named;
 use rules::PLACES;
@@ -16,6 +17,7 @@ use rules::Verdict;
 const LONGEST: u64 = 1000000000;
 
 // The first 32 lines, and how many there are. Places at and past the count are blank in a table that is kept.
+#[repr(C)]
 pub struct TaskTable {
     pub lines: [Line; PLACES],
     pub count: usize,
@@ -202,4 +204,41 @@ pub fn empty() -> TaskTable
         }; PLACES],
         count: 0,
     }
+}
+
+// ---- a copy of lent lines, one after the other
+
+// How many of so many lines are copied: of more than 32 none, since their count alone refuses them.
+pub fn few(given: usize) -> usize
+    ensures { λ r. ⌜ r ≡ fewOf given ⌝ }
+{
+    if given <= PLACES { given } else { 0 }
+}
+
+// The copy before its first line: of more than 32 it holds their count.
+pub fn begun(given: usize) -> TaskTable
+    ensures { λ r. ⌜ r ≡ begunOf given ⌝ }
+{
+    let none = empty();
+    let lines = none.lines;
+    TaskTable {
+        lines,
+        count: given - few(given),
+    }
+}
+
+// One line more. A full table stays as it is.
+pub fn pushed(table: TaskTable, line: Line) -> TaskTable
+    ensures { λ r. ⌜ r ≡ pushedOf table line ⌝ }
+{
+    let n = table.count;
+    if n < PLACES {
+        let mut lines = table.lines;
+        lines[n] = line;
+        return TaskTable {
+            lines,
+            count: n + 1,
+        };
+    }
+    table
 }

@@ -1,0 +1,10 @@
+pub mod Arg
+pub mod Calls
+pub mod Claims
+pub mod Copies
+pub mod Data
+pub mod Lines
+pub mod Relay
+pub mod Structs
+pub mod Thin1
+pub mod Thin2

@@ -1,0 +1,45 @@
+-- What the check and the calls give is kept: it is what the scheduler gives for the state that is read back. Assumes nothing.
+use mathlib.Core.Path.{_≡_, sym, ap, _∙_, subst⁻¹}
+use mathlib.Core.List.{List, foldl}
+use lib.ListN.{length, take}
+use Rattle.rules.specs.declared.Call.{Call}
+use Rattle.rules.specs.declared.Line.{Line}
+use Rattle.table.specs.declared.TaskTable.{TaskTable}
+use Rattle.table.specs.Copy.{fewOf, begunOf, pushedOf}
+use Rattle.scheduler.specs.declared.State.{State}
+use Rattle.scheduler.specs.declared.Checked.{Checked}
+use Rattle.scheduler.specs.declared.Stepped.{Stepped}
+use Rattle.scheduler.specs.State.{Handed, HandedOut, checkedOf, stepOf}
+use Rattle.board.proofs.Copies.{checks-lines as checks-copy}
+use Rattle.head.specs.declared.HeadState.{HeadState}
+use Rattle.head.specs.declared.HeadChecked.{HeadChecked}
+use Rattle.head.specs.declared.HeadStepped.{HeadStepped}
+use Rattle.head.specs.Placed.{placed, stateIn, Kept}
+use Rattle.head.specs.Calls.{checkedPlaced, judgedOf, KeptOut, LinesChecked, steppedFor, headStep}
+use Rattle.head.proofs.Back.{state-back, number-same}
+
+-- a state that was handed out is one, however C keeps it
+kept-placed : (s : State) → Handed s → Kept (placed s)
+kept-placed s h = subst⁻¹ Handed (state-back s) h
+
+pub checks : (t : TaskTable) (n : Checked) (r : HeadChecked) → (n ≡ checkedOf t) × HandedOut n → r ≡ checkedPlaced n → (r ≡ judgedOf t) × KeptOut r
+unfolding judgedOf
+checks t n r g e = (
+  e ∙ ap checkedPlaced (g .0),
+  subst⁻¹ KeptOut e (λ z. kept-placed (n .state) (g .1 (sym (number-same (n .verdict)) ∙ z))),
+)
+
+pub opens : (p : HeadState) (s : State) → Kept p → s ≡ stateIn p → Handed s
+opens p s k e = subst⁻¹ Handed e k
+
+pub steps : (p : HeadState) (e : Call) (s : State) (n : Stepped) (r : HeadStepped) → s ≡ stateIn p → (n ≡ stepOf s e) × Handed (n .state) → r ≡ steppedFor n → (r ≡ headStep p e) × Kept (r .state)
+unfolding headStep
+steps p e s n r q g z = (
+  z ∙ ap steppedFor (g .0 ∙ ap (λ (x : State). stepOf x e) q),
+  subst⁻¹ (λ (x : HeadStepped). Kept (x .state)) z (kept-placed (n .state) (g .1)),
+)
+
+-- the check answers for a copy of lent lines as for the lines
+pub checks-lines : (xs : List Line) (r : HeadChecked) → (r ≡ judgedOf (foldl pushedOf (begunOf (length xs)) (take (fewOf (length xs)) xs))) × KeptOut r → LinesChecked xs r
+unfolding judgedOf
+checks-lines xs r g = record { gives = g .0 ∙ ap checkedPlaced (checks-copy xs); hands-out = g .1 }

@@ -1,0 +1,3 @@
+pub mod Placed
+pub mod Calls
+pub mod Claims

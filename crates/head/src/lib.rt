@@ -1,0 +1,416 @@
+// The scheduler of one recorder head, for C: the same calls as the board's, over structs without enums.
+ghost use mathlib.Core.Path.{_≡_};
+ghost use Rattle.rules.specs.declared.Call.the-variants.{Wait, Activate, Terminate, Chain};
+ghost use Rattle.rules.specs.Layer.{isReleased};
+ghost use Rattle.head.specs.Placed.{phaseIn, placedJob, jobIn, placed, stateIn, Kept, runsIn, taskIn, dueIn, numberOf, calledOf, answerFor, verdictFor};
+ghost use Rattle.head.specs.Calls.{judgedOf, KeptOut, LinesChecked, steppedFor, headStep, Left};
+ghost use Rattle.head.specs.Claims.{Claims};
+use jobs::JobList;
+use monitor::Monitor;
+use rules::Answer;
+use rules::Choice;
+use rules::Job;
+use rules::KernelCall;
+use rules::Late;
+use rules::Line;
+use rules::Named;
+use rules::PLACES;
+use rules::Phase;
+use rules::Tick;
+use rules::Verdict;
+use scheduler::State;
+use scheduler::Stepped;
+use table::TaskTable;
+
+// A pending job.
+#[repr(C)]
+pub struct HeadJob {
+    pub due: Tick,
+    pub task: u8,
+    pub released: bool,
+}
+
+// The scheduler state of a recorder head.
+#[repr(C)]
+pub struct HeadState {
+    pub table: TaskTable,
+    pub last: Tick,
+    pub jobs: [HeadJob; PLACES],
+    pub count: usize,
+    pub monitor: Monitor,
+}
+
+// What a call returns: the result, whether a job runs, its task and deadline (else 0), the kernel call (0 none, 1 ActivateTask, 2 ChainTask, 3 TerminateTask), the task that it names (else 0), and the newly late jobs.
+#[repr(C)]
+pub struct HeadAnswer {
+    pub result: u8,
+    pub runs: bool,
+    pub task: u8,
+    pub due: Tick,
+    pub call: u8,
+    pub called: u8,
+    pub late: Late,
+}
+
+// What the check answers: its number, how many lines are named, and these (else 0).
+#[repr(C)]
+pub struct HeadVerdict {
+    pub number: u8,
+    pub named: u8,
+    pub first: u8,
+    pub second: u8,
+}
+
+// What the check gives: the state, which counts as handed out where the number is 0, and its answer.
+#[repr(C)]
+pub struct HeadChecked {
+    pub state: HeadState,
+    pub verdict: HeadVerdict,
+}
+
+// What a call gives: the next state, and its answer.
+struct HeadStepped {
+    state: HeadState,
+    answer: HeadAnswer,
+}
+
+// ---- how a state is kept for C
+
+// Whether the kernel has a job.
+fn released_in(phase: Phase) -> bool
+    ensures { λ r. ⌜ r ≡ isReleased phase ⌝ }
+{
+    match phase {
+        Phase::Delayed => false,
+        Phase::Released => true,
+    }
+}
+
+// And back.
+fn phase_in(released: bool) -> Phase
+    ensures { λ r. ⌜ r ≡ phaseIn released ⌝ }
+{
+    if released {
+        return Phase::Released;
+    }
+    Phase::Delayed
+}
+
+// A job as C keeps it.
+fn placed_job(job: Job) -> HeadJob
+    ensures { λ r. ⌜ r ≡ placedJob job ⌝ }
+{
+    let due = job.due;
+    let phase = job.phase;
+    HeadJob {
+        due,
+        task: job.task,
+        released: released_in(phase),
+    }
+}
+
+// And back.
+fn job_in(job: HeadJob) -> Job
+    ensures { λ r. ⌜ r ≡ jobIn job ⌝ }
+{
+    let due = job.due;
+    Job {
+        due,
+        task: job.task,
+        phase: phase_in(job.released),
+    }
+}
+
+// A state as C keeps it.
+fn closed(s: State) -> HeadState
+    ensures { λ r. ⌜ r ≡ placed s ⌝ }
+{
+    let list = s.list;
+    let mut jobs = [HeadJob {
+        due: Tick(0),
+        task: 0,
+        released: false,
+    }; PLACES];
+    let mut i = 0;
+    while i < PLACES {
+        let job = list.jobs[i];
+        jobs[i] = placed_job(job);
+        i += 1;
+    }
+    let table = s.table;
+    let last = s.last;
+    let monitor = s.monitor;
+    HeadState {
+        table,
+        last,
+        jobs,
+        count: list.count,
+        monitor,
+    }
+}
+
+// And back.
+fn opened(p: HeadState) -> State
+    ensures { λ r. ⌜ r ≡ stateIn p ⌝ }
+{
+    let mut jobs = [Job {
+        due: Tick(0),
+        task: 0,
+        phase: Phase::Delayed,
+    }; PLACES];
+    let mut i = 0;
+    while i < PLACES {
+        let job = p.jobs[i];
+        jobs[i] = job_in(job);
+        i += 1;
+    }
+    let table = p.table;
+    let last = p.last;
+    let list = JobList {
+        jobs,
+        count: p.count,
+    };
+    let monitor = p.monitor;
+    State {
+        table,
+        last,
+        list,
+        monitor,
+    }
+}
+
+// ---- how an answer is given to C
+
+// Whether a job runs.
+fn runs_in(choice: Choice) -> bool
+    ensures { λ r. ⌜ r ≡ runsIn choice ⌝ }
+{
+    match choice {
+        Choice::Idle => false,
+        Choice::Runs(task, due) => true,
+    }
+}
+
+// Its task.
+fn task_in(choice: Choice) -> u8
+    ensures { λ r. ⌜ r ≡ taskIn choice ⌝ }
+{
+    match choice {
+        Choice::Idle => 0,
+        Choice::Runs(task, due) => task,
+    }
+}
+
+// Its deadline.
+fn due_in(choice: Choice) -> Tick
+    ensures { λ r. ⌜ r ≡ dueIn choice ⌝ }
+{
+    match choice {
+        Choice::Idle => Tick(0),
+        Choice::Runs(task, due) => due,
+    }
+}
+
+// The kernel call, by its number.
+fn number_of(call: KernelCall) -> u8
+    ensures { λ r. ⌜ r ≡ numberOf call ⌝ }
+{
+    match call {
+        KernelCall::NoCall => 0,
+        KernelCall::ActivateTask(task) => 1,
+        KernelCall::ChainTask(task) => 2,
+        KernelCall::TerminateTask => 3,
+    }
+}
+
+// The task that it names.
+fn called_of(call: KernelCall) -> u8
+    ensures { λ r. ⌜ r ≡ calledOf call ⌝ }
+{
+    match call {
+        KernelCall::NoCall => 0,
+        KernelCall::ActivateTask(task) => task,
+        KernelCall::ChainTask(task) => task,
+        KernelCall::TerminateTask => 0,
+    }
+}
+
+// What a call returns.
+fn answer_for(a: Answer) -> HeadAnswer
+    ensures { λ r. ⌜ r ≡ answerFor a ⌝ }
+{
+    let running = a.running;
+    let call = a.call;
+    let late = a.late;
+    HeadAnswer {
+        result: a.result,
+        runs: runs_in(running),
+        task: task_in(running),
+        due: due_in(running),
+        call: number_of(call),
+        called: called_of(call),
+        late,
+    }
+}
+
+// What the check answers.
+fn verdict_for(v: Verdict) -> HeadVerdict
+    ensures { λ r. ⌜ r ≡ verdictFor v ⌝ }
+{
+    let lines = v.lines;
+    match lines {
+        Named::NoneNamed => HeadVerdict {
+            number: v.number,
+            named: 0,
+            first: 0,
+            second: 0,
+        },
+        Named::TheLine(i) => HeadVerdict {
+            number: v.number,
+            named: 1,
+            first: i,
+            second: 0,
+        },
+        Named::BothLines(i, j) => HeadVerdict {
+            number: v.number,
+            named: 2,
+            first: i,
+            second: j,
+        },
+    }
+}
+
+// ---- the check by value
+
+// The check of a task table: a fresh state is handed out if it gives 0.
+fn judged(t: TaskTable) -> HeadChecked
+    ensures { λ r. ⌜ (r ≡ judgedOf t) × KeptOut r ⌝ }
+{
+    let checked = scheduler::check(t);
+    let state = checked.state;
+    let verdict = checked.verdict;
+    HeadChecked {
+        state: closed(state),
+        verdict: verdict_for(verdict),
+    }
+}
+
+// ---- the calls by value
+
+// What a call gives, as C keeps it.
+fn stepped_for(next: Stepped) -> HeadStepped
+    ensures { λ r. ⌜ r ≡ steppedFor next ⌝ }
+{
+    let state = next.state;
+    let answer = next.answer;
+    HeadStepped {
+        state: closed(state),
+        answer: answer_for(answer),
+    }
+}
+
+// Tick, by value.
+fn step_tick(p: HeadState, at: Tick) -> HeadStepped
+    requires { ⌜ Kept p ⌝ }
+    ensures { λ r. ⌜ (r ≡ headStep p (Wait at)) × Kept (r .state) ⌝ }
+{
+    let s = opened(p);
+    let next = scheduler::tick(s, at);
+    stepped_for(next)
+}
+
+// Activate, by value.
+fn step_activate(p: HeadState, at: Tick, task: u8) -> HeadStepped
+    requires { ⌜ Kept p ⌝ }
+    ensures { λ r. ⌜ (r ≡ headStep p (Activate at task)) × Kept (r .state) ⌝ }
+{
+    let s = opened(p);
+    let next = scheduler::activate(s, at, task);
+    stepped_for(next)
+}
+
+// Terminate, by value.
+fn step_terminate(p: HeadState, at: Tick) -> HeadStepped
+    requires { ⌜ Kept p ⌝ }
+    ensures { λ r. ⌜ (r ≡ headStep p (Terminate at)) × Kept (r .state) ⌝ }
+{
+    let s = opened(p);
+    let next = scheduler::terminate(s, at);
+    stepped_for(next)
+}
+
+// Chain, by value.
+fn step_chain(p: HeadState, at: Tick, task: u8) -> HeadStepped
+    requires { ⌜ Kept p ⌝ }
+    ensures { λ r. ⌜ (r ≡ headStep p (Chain at task)) × Kept (r .state) ⌝ }
+{
+    let s = opened(p);
+    let next = scheduler::chain(s, at, task);
+    stepped_for(next)
+}
+
+// ---- the check and the calls for C: lines as they are, the state of a recorder head updated where it stands
+
+// The check of the lent lines: a fresh state is handed out if it gives 0. Of more than 32 lines none is read.
+#[no_mangle]
+pub extern "C" fn head_check(lines: &[Line]) -> HeadChecked
+    ensures { λ r. ⌜ LinesChecked (now (lines .entry)) r ⌝ }
+{
+    let mut copy = table::begun(lines.len());
+    let n = table::few(lines.len());
+    let mut i = 0;
+    while i < n {
+        copy = table::pushed(copy, lines[i]);
+        i += 1;
+    }
+    judged(copy)
+}
+
+// Tick: time moves; no kernel call.
+#[no_mangle]
+pub extern "C" fn head_tick(s: &mut HeadState, at: Tick) -> HeadAnswer
+    requires { ⌜ Kept (now s) ⌝ }
+    ensures { λ r. ⌜ Left (now (s .entry)) (Wait at) r (now (s .exit)) ⌝ }
+{
+    let next = step_tick(*s, at);
+    *s = next.state;
+    next.answer
+}
+
+// Activate: a new job of the task goes into the list, and is released if it is first.
+#[no_mangle]
+pub extern "C" fn head_activate(s: &mut HeadState, at: Tick, task: u8) -> HeadAnswer
+    requires { ⌜ Kept (now s) ⌝ }
+    ensures { λ r. ⌜ Left (now (s .entry)) (Activate at task) r (now (s .exit)) ⌝ }
+{
+    let next = step_activate(*s, at, task);
+    *s = next.state;
+    next.answer
+}
+
+// Terminate: the running job leaves the list.
+#[no_mangle]
+pub extern "C" fn head_terminate(s: &mut HeadState, at: Tick) -> HeadAnswer
+    requires { ⌜ Kept (now s) ⌝ }
+    ensures { λ r. ⌜ Left (now (s .entry)) (Terminate at) r (now (s .exit)) ⌝ }
+{
+    let next = step_terminate(*s, at);
+    *s = next.state;
+    next.answer
+}
+
+// Chain: the running job leaves, and the named task's job is inserted at the same tick.
+#[no_mangle]
+pub extern "C" fn head_chain(s: &mut HeadState, at: Tick, task: u8) -> HeadAnswer
+    requires { ⌜ Kept (now s) ⌝ }
+    ensures { λ r. ⌜ Left (now (s .entry)) (Chain at task) r (now (s .exit)) ⌝ }
+{
+    let next = step_chain(*s, at, task);
+    *s = next.state;
+    next.answer
+}
+
+// Does nothing. Its contract is all of specs/Claims, so that a claim without a proof fails the check.
+pub fn head_holds()
+    ensures { λ r. ⌜ Claims ⌝ }
+{}

@@ -1,0 +1,128 @@
+// For programs, which hold a table's lines and a state by value: they are lent to the board's check, its table writer and its calls, and come back.
+ghost use mathlib.Core.Path.{_≡_};
+ghost use Prim.Native.Nat.{_≤_};
+ghost use lib.ListN.{take};
+ghost use Rattle.rules.specs.declared.Call.the-variants.{Wait, Activate, Terminate, Chain};
+ghost use Rattle.rules.specs.Words.{places};
+ghost use Rattle.rules.specs.Tape.{greatestByte, TableWrote};
+ghost use Rattle.tape.specs.Tables.{givenLines};
+ghost use Rattle.scheduler.specs.State.{Handed, HandedOut, checkedOf, stepOf};
+ghost use Rattle.board.specs.Lent.{LinesChecked};
+use rules::Call;
+use rules::Line;
+use rules::PLACES;
+use rules::Tick;
+use rules::Written;
+use scheduler::Checked;
+use scheduler::State;
+use scheduler::Stepped;
+use table::TaskTable;
+use tape::MOST_LINES;
+
+// ---- the check
+
+// The check of the first n lines, which are lent.
+fn check_part(lines: [Line; PLACES], n: usize) -> Checked
+    requires { ⌜ n ≤ places ⌝ }
+    ensures { λ r. ⌜ LinesChecked (take n lines) r ⌝ }
+{
+    board::check(&lines[..n])
+}
+
+// The check of a table, as `scheduler::check`. Up to 32 lines are lent; more have no place to be lent from.
+pub fn check(given: TaskTable) -> Checked
+    ensures { λ r. ⌜ (r ≡ checkedOf given) × HandedOut r ⌝ }
+{
+    if given.count <= PLACES {
+        let lines = given.lines;
+        return check_part(lines, given.count);
+    }
+    scheduler::check(given)
+}
+
+// ---- the table on tape
+
+// The table of the first n lines, which are lent.
+fn write_part(lines: [Line; MOST_LINES], n: usize, buf: &mut [u8]) -> Written
+    requires { ⌜ n ≤ greatestByte ⌝ }
+    ensures { λ r. ⌜ TableWrote (record { lines = take n lines }) (now (buf .entry)) r (now (buf .exit)) ⌝ }
+{
+    board::write_table(&lines[..n], buf)
+}
+
+// The table, as `tape::write_table`. Up to 255 lines are lent; more have no place to be lent from.
+pub fn write_table(lines: [Line; MOST_LINES], count: usize, buf: &mut [u8]) -> Written
+    ensures { λ r. ⌜ TableWrote (givenLines lines count) (now (buf .entry)) r (now (buf .exit)) ⌝ }
+{
+    if count <= MOST_LINES {
+        return write_part(lines, count, buf);
+    }
+    tape::write_table(lines, count, buf)
+}
+
+// ---- the calls
+
+// Tick: time moves; no kernel call.
+pub fn tick(s: State, at: Tick) -> Stepped
+    requires { ⌜ Handed s ⌝ }
+    ensures { λ r. ⌜ (r ≡ stepOf s (Wait at)) × Handed (r .state) ⌝ }
+{
+    let mut here = s;
+    let answer = board::tick(&mut here, at);
+    Stepped {
+        state: here,
+        answer,
+    }
+}
+
+// Activate: a new job of the task goes into the list, and is released if it is first.
+pub fn activate(s: State, at: Tick, task: u8) -> Stepped
+    requires { ⌜ Handed s ⌝ }
+    ensures { λ r. ⌜ (r ≡ stepOf s (Activate at task)) × Handed (r .state) ⌝ }
+{
+    let mut here = s;
+    let answer = board::activate(&mut here, at, task);
+    Stepped {
+        state: here,
+        answer,
+    }
+}
+
+// Terminate: the running job leaves the list.
+pub fn terminate(s: State, at: Tick) -> Stepped
+    requires { ⌜ Handed s ⌝ }
+    ensures { λ r. ⌜ (r ≡ stepOf s (Terminate at)) × Handed (r .state) ⌝ }
+{
+    let mut here = s;
+    let answer = board::terminate(&mut here, at);
+    Stepped {
+        state: here,
+        answer,
+    }
+}
+
+// Chain: the running job leaves, and the named task's job is inserted at the same tick.
+pub fn chain(s: State, at: Tick, task: u8) -> Stepped
+    requires { ⌜ Handed s ⌝ }
+    ensures { λ r. ⌜ (r ≡ stepOf s (Chain at task)) × Handed (r .state) ⌝ }
+{
+    let mut here = s;
+    let answer = board::chain(&mut here, at, task);
+    Stepped {
+        state: here,
+        answer,
+    }
+}
+
+// Any of the four.
+pub fn call(s: State, call: Call) -> Stepped
+    requires { ⌜ Handed s ⌝ }
+    ensures { λ r. ⌜ (r ≡ stepOf s call) × Handed (r .state) ⌝ }
+{
+    match call {
+        Call::Wait(at) => tick(s, at),
+        Call::Activate(at, task) => activate(s, at, task),
+        Call::Terminate(at) => terminate(s, at),
+        Call::Chain(at, task) => chain(s, at, task),
+    }
+}
