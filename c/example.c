@@ -1,5 +1,5 @@
-/* The run of document 01 through the calls for C, printed as document 01 prints it; then calls that are
- * refused, each of which leaves the state as it was. Freestanding, for x86-64 Linux. */
+/* The run of document 01 through the calls for C, printed as document 01 prints it; calls that are refused, each of
+ * which leaves the state as it was; a chain; tables that are refused. Freestanding, for x86-64 Linux. */
 #include "head.h"
 
 /* ---- what stands in for a C library */
@@ -146,8 +146,10 @@ static const struct HeadLine limitless[1] = {{.deadline = {3}, .priority = 1, .l
 /* The check; a refused table is printed as document 01 prints it. */
 static bool checked(const struct HeadLine *lines, size_t count) {
     struct HeadChecked c = head_check(lines, count);
-    s = c.state;
-    if (c.verdict.number == 0) return true;
+    if (c.verdict.number == 0) {
+        s = c.state;
+        return true;
+    }
     put_text("table ");
     put_number(c.verdict.number);
     put(' ');
@@ -156,6 +158,29 @@ static bool checked(const struct HeadLine *lines, size_t count) {
     if (c.verdict.named > 1) put_number(c.verdict.second); else put('-');
     put('\n');
     return false;
+}
+
+/* What the state holds: the last accepted tick; each job's task, deadline and whether it is released; each task's late and ended jobs and greatest response. */
+static void put_state(void) {
+    put_text("last ");
+    put_number(s.last.ticks);
+    if (s.count == 0) put_text("; -");
+    for (size_t i = 0; i < s.count; i++) {
+        put_text(i == 0 ? "; " : ", ");
+        put_number(s.jobs[i].task);
+        put(' ');
+        put_number(s.jobs[i].due.ticks);
+        put_text(s.jobs[i].released ? " released" : " delayed");
+    }
+    for (size_t i = 0; i < s.table.count; i++) {
+        put_text(i == 0 ? "; " : ", ");
+        put_number(s.monitor.tallies[i].late);
+        put(' ');
+        put_number(s.monitor.tallies[i].ended);
+        put(' ');
+        put_number(s.monitor.tallies[i].response);
+    }
+    put('\n');
 }
 
 static void run(void) {
@@ -170,6 +195,18 @@ static void run(void) {
     terminate(4);
     tick(7);
     terminate(8);
+    put_state();
+}
+
+/* Table P again: a chain that is accepted, and what is pending behind it. */
+static void chains(void) {
+    put_text("chained\n");
+    if (!checked(P, 3)) return;
+    activate(0, 1);
+    activate(1, 0);
+    activate(1, 2);
+    chain(3, 0);
+    put_state();
 }
 
 /* Each line below is of a refused call; the state is compared after each. */
@@ -210,6 +247,7 @@ static void tables(void) {
 __attribute__((noreturn, used)) static void begin(void) {
     run();
     refusals();
+    chains();
     tables();
     ask(1, 1, (long)text, (long)used);
     ask(60, 0, 0, 0);

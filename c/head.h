@@ -1,11 +1,25 @@
 /* The scheduler of one recorder head, for C on x86-64: crate `head`, built by `rt staticlib head`.
  *
- * One struct HeadState per recorder head. head_check hands it out; head_tick, head_activate, head_terminate
- * and head_chain update it where it stands and answer. They ask for one thing: the state was handed out by
- * head_check with number 0, and nothing but these calls has changed it since. What each answers and leaves is
- * proved (crates/head/specs). The state may be read at any time: `monitor.tallies[task]` has what is counted.
+ * In this order:
+ *   head_check        once, with the task table. Number 0: the state that it gives is handed out.
+ *   head_tick, head_activate, head_terminate, head_chain
+ *                     with that state, which they update where it stands. After each the caller makes the
+ *                     kernel call that the answer names, before any other call on this state: the library
+ *                     makes none. A task number is a line's place in the table; which task of the kernel
+ *                     that is, the caller knows.
+ *
+ * A call asks for one thing: the state was handed out by head_check with number 0, and nothing but these calls
+ * has changed it since. Of any other state nothing is promised, not even that a call stays within it. Any tick
+ * and any task number will do. What each call answers and leaves is proved (crates/head/specs); a refused call
+ * leaves every field as it was. Between calls the state may be read: `monitor.tallies[task]` has what is counted.
  * Padding has no meaning, and a call may change it: compare states field by field.
- * Calls on one state go one after the other. The library has no other memory, and calls memcpy and memmove.
+ *
+ * A state goes with a kernel: what runs is what the kernel runs if all that it runs are jobs of this state. Tasks
+ * of several heads that share a processor are lines of one table.
+ *
+ * Pointers are not null, are aligned, and point to whole structs: `lines` to `count` of them. Calls on one state
+ * go one after the other. The library has no memory of its own but the stack, of which a call takes some 10 KB
+ * (measured, not proved), and calls memcpy, memmove and memset.
  */
 #ifndef HEAD_H
 #define HEAD_H
@@ -91,8 +105,8 @@ struct HeadAnswer {
     bool runs;       /* whether a job runs after the call */
     uint8_t task;    /* its task, or 0 */
     struct HeadTick due; /* its deadline, or 0 */
-    uint8_t call;    /* the kernel call made */
-    uint8_t called;  /* the task it releases (ActivateTask, ChainTask), or 0 */
+    uint8_t call;    /* the kernel call to make now */
+    uint8_t called;  /* the task that it names (ActivateTask, ChainTask), or 0 */
     struct HeadLate late;
 };
 
@@ -149,7 +163,7 @@ struct HeadChecked {
 };
 
 /* Checks a task table of `count` lines, which it reads and does not change; of more than 32 it reads none.
- * `lines` is not null, also where the count is 0. */
+ * `lines` is not null where the count is 0 either. */
 struct HeadChecked head_check(const struct HeadLine *lines, size_t count);
 
 /* Time moves to `at`. No kernel call. Refused with 8. */
@@ -169,24 +183,28 @@ struct HeadAnswer head_chain(struct HeadState *s, struct HeadTick at, uint8_t ta
 
 #ifdef __cplusplus
 }
+#define HEAD_HOLDS static_assert
 #else
-/* What the calls rely on. */
-_Static_assert(sizeof(size_t) == 8 && sizeof(bool) == 1, "x86-64");
-_Static_assert(sizeof(struct HeadLine) == 16 && offsetof(struct HeadLine, priority) == 8 && offsetof(struct HeadLine, limit) == 9, "HeadLine");
-_Static_assert(sizeof(struct HeadTable) == 520 && offsetof(struct HeadTable, count) == 512, "HeadTable");
-_Static_assert(sizeof(struct HeadJob) == 16 && offsetof(struct HeadJob, task) == 8 && offsetof(struct HeadJob, released) == 9, "HeadJob");
-_Static_assert(sizeof(struct HeadTally) == 16 && offsetof(struct HeadTally, ended) == 4 && offsetof(struct HeadTally, response) == 8, "HeadTally");
-_Static_assert(sizeof(struct HeadMonitor) == 512, "HeadMonitor");
-_Static_assert(offsetof(struct HeadState, last) == 520 && offsetof(struct HeadState, jobs) == 528, "HeadState");
-_Static_assert(offsetof(struct HeadState, count) == 1040 && offsetof(struct HeadState, monitor) == 1048, "HeadState");
-_Static_assert(sizeof(struct HeadState) == 1560, "HeadState");
-_Static_assert(sizeof(struct HeadLate) == 33 && offsetof(struct HeadLate, tasks) == 1, "HeadLate");
-_Static_assert(offsetof(struct HeadAnswer, runs) == 1 && offsetof(struct HeadAnswer, task) == 2, "HeadAnswer");
-_Static_assert(offsetof(struct HeadAnswer, due) == 8 && offsetof(struct HeadAnswer, call) == 16, "HeadAnswer");
-_Static_assert(offsetof(struct HeadAnswer, called) == 17 && offsetof(struct HeadAnswer, late) == 18, "HeadAnswer");
-_Static_assert(sizeof(struct HeadAnswer) == 56, "HeadAnswer");
-_Static_assert(sizeof(struct HeadVerdict) == 4, "HeadVerdict");
-_Static_assert(sizeof(struct HeadChecked) == 1568 && offsetof(struct HeadChecked, verdict) == 1560, "HeadChecked");
+#define HEAD_HOLDS _Static_assert
 #endif
+
+/* What the calls rely on. */
+HEAD_HOLDS(sizeof(size_t) == 8 && sizeof(bool) == 1, "x86-64");
+HEAD_HOLDS(sizeof(struct HeadLine) == 16 && offsetof(struct HeadLine, priority) == 8 && offsetof(struct HeadLine, limit) == 9, "HeadLine");
+HEAD_HOLDS(sizeof(struct HeadTable) == 520 && offsetof(struct HeadTable, count) == 512, "HeadTable");
+HEAD_HOLDS(sizeof(struct HeadJob) == 16 && offsetof(struct HeadJob, task) == 8 && offsetof(struct HeadJob, released) == 9, "HeadJob");
+HEAD_HOLDS(sizeof(struct HeadTally) == 16 && offsetof(struct HeadTally, ended) == 4 && offsetof(struct HeadTally, response) == 8, "HeadTally");
+HEAD_HOLDS(sizeof(struct HeadMonitor) == 512, "HeadMonitor");
+HEAD_HOLDS(offsetof(struct HeadState, last) == 520 && offsetof(struct HeadState, jobs) == 528, "HeadState");
+HEAD_HOLDS(offsetof(struct HeadState, count) == 1040 && offsetof(struct HeadState, monitor) == 1048, "HeadState");
+HEAD_HOLDS(sizeof(struct HeadState) == 1560, "HeadState");
+HEAD_HOLDS(sizeof(struct HeadLate) == 33 && offsetof(struct HeadLate, tasks) == 1, "HeadLate");
+HEAD_HOLDS(offsetof(struct HeadAnswer, runs) == 1 && offsetof(struct HeadAnswer, task) == 2, "HeadAnswer");
+HEAD_HOLDS(offsetof(struct HeadAnswer, due) == 8 && offsetof(struct HeadAnswer, call) == 16, "HeadAnswer");
+HEAD_HOLDS(offsetof(struct HeadAnswer, called) == 17 && offsetof(struct HeadAnswer, late) == 18, "HeadAnswer");
+HEAD_HOLDS(sizeof(struct HeadAnswer) == 56, "HeadAnswer");
+HEAD_HOLDS(sizeof(struct HeadVerdict) == 4, "HeadVerdict");
+HEAD_HOLDS(sizeof(struct HeadChecked) == 1568 && offsetof(struct HeadChecked, verdict) == 1560, "HeadChecked");
+#undef HEAD_HOLDS
 
 #endif

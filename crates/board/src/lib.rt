@@ -1,9 +1,9 @@
-// What a board links: the check of lent lines, the calls on the scheduler state of a recorder head, updated where it stands, and the table of lent lines on tape.
+// What a board's code in Rattle calls: the check of lent lines, the calls on the scheduler state of a recorder head, updated where it stands, and the table of lent lines on tape.
 // The bodies are thin: what they pass on is by value, and covered.
 ghost use mathlib.Core.Path.{_≡_};
 ghost use Rattle.rules.specs.declared.Call.the-variants.{Wait, Activate, Terminate, Chain};
 ghost use Rattle.rules.specs.Tape.{TableWrote};
-ghost use Rattle.tape.specs.Tables.{copyOf};
+ghost use Rattle.tape.specs.Tables.{copied};
 ghost use Rattle.scheduler.specs.State.{Handed};
 ghost use Rattle.board.specs.Lent.{LinesChecked, Left};
 ghost use Rattle.board.specs.Claims.{Claims};
@@ -22,7 +22,7 @@ pub fn check(lines: &[Line]) -> Checked
     ensures { λ r. ⌜ LinesChecked (now (lines .entry)) r ⌝ }
 {
     let mut copy = table::begun(lines.len());
-    let n = table::few(lines.len());
+    let n = table::lines_read(lines.len());
     let mut i = 0;
     while i < n {
         copy = table::pushed(copy, lines[i]);
@@ -43,7 +43,7 @@ pub fn tick(s: &mut State, at: Tick) -> Answer
     next.answer
 }
 
-// Activate: a new job of the task goes into the list, and is released if it is first.
+// Activate: a new job of the task goes into the list. If it is first it is released by ActivateTask; otherwise no kernel call.
 pub fn activate(s: &mut State, at: Tick, task: u8) -> Answer
     requires { ⌜ Handed (now s) ⌝ }
     ensures { λ r. ⌜ Left (now (s .entry)) (Activate at task) r (now (s .exit)) ⌝ }
@@ -53,7 +53,7 @@ pub fn activate(s: &mut State, at: Tick, task: u8) -> Answer
     next.answer
 }
 
-// Terminate: the running job leaves the list.
+// Terminate: the running job leaves the list. If the new first job is delayed it is released by ChainTask; otherwise TerminateTask.
 pub fn terminate(s: &mut State, at: Tick) -> Answer
     requires { ⌜ Handed (now s) ⌝ }
     ensures { λ r. ⌜ Left (now (s .entry)) (Terminate at) r (now (s .exit)) ⌝ }
@@ -63,7 +63,7 @@ pub fn terminate(s: &mut State, at: Tick) -> Answer
     next.answer
 }
 
-// Chain: the running job leaves, and the named task's job is inserted at the same tick.
+// Chain: the running job leaves, the named task's job is inserted at the same tick, then as for terminate.
 pub fn chain(s: &mut State, at: Tick, task: u8) -> Answer
     requires { ⌜ Handed (now s) ⌝ }
     ensures { λ r. ⌜ Left (now (s .entry)) (Chain at task) r (now (s .exit)) ⌝ }
@@ -77,10 +77,10 @@ pub fn chain(s: &mut State, at: Tick, task: u8) -> Answer
 
 // The lent lines, one after the other. Of more than 255 lines none is read.
 fn copy_lines(lines: &[Line]) -> LineCopy
-    ensures { λ r. ⌜ r ≡ copyOf (now (lines .entry)) ⌝ }
+    ensures { λ r. ⌜ r ≡ copied (now (lines .entry)) ⌝ }
 {
     let mut copy = tape::begun(lines.len());
-    let n = tape::few(lines.len());
+    let n = tape::lines_read(lines.len());
     let mut i = 0;
     while i < n {
         copy = tape::pushed(copy, lines[i]);

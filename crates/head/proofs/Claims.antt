@@ -1,6 +1,67 @@
 -- The claims of specs/Claims, proved. Assumes nothing.
-use Rattle.head.specs.Claims.{Claims}
-use Rattle.head.proofs.Back.{state-back, placed-back, answers-apart, verdicts-apart}
+use mathlib.Core.Path.{_≡_, refl, sym, ap, _∙_, subst}
+use mathlib.Core.List.{List, [], _∷_, map}
+use Rattle.rules.specs.declared.Call.{Call}
+use Rattle.rules.specs.Table.{check}
+use Rattle.scheduler.specs.declared.State.{State}
+use Rattle.scheduler.specs.State.{checkedFor, stepOf}
+use Rattle.scheduler.specs.Claims.{stateAfter, answered}
+use Rattle.board.specs.Claims.{Goes}
+use Rattle.board.proofs.Claims.{steps-go}
+use Rattle.head.specs.declared.HeadState.{HeadState}
+use Rattle.head.specs.declared.HeadAnswer.{HeadAnswer}
+use Rattle.head.specs.declared.HeadChecked.{HeadChecked}
+use Rattle.head.specs.Placed.{placed, stateIn, answerFor}
+use Rattle.head.specs.Calls.{headStep, Left}
+use Rattle.head.specs.Claims.{OneChecked, OneLeft, Went, GoesAsRuled, Claims}
+use Rattle.head.proofs.Back.{state-back, placed-back, answers-apart, verdicts-apart, number-same}
+
+one-checked : OneChecked
+one-checked xs r r′ c c′ = c .gives ∙ sym (c′ .gives)
+
+one-left : OneLeft
+one-left p e a a′ t t′ l l′ = (l .answers ∙ sym (l′ .answers), l .leaves ∙ sym (l′ .leaves))
+
+-- ---- a whole run
+
+-- the state that is read back after a call is the step's
+next-back : (p : HeadState) (e : Call) (a : HeadAnswer) (t : HeadState) → Left p e a t → stateIn t ≡ (stepOf (stateIn p) e) .state
+unfolding headStep
+next-back p e a t l = ap stateIn (l .leaves) ∙ state-back ((stepOf (stateIn p) e) .state)
+
+answer-told : (p : HeadState) (e : Call) (a : HeadAnswer) (t : HeadState) → Left p e a t → a ≡ answerFor ((stepOf (stateIn p) e) .answer)
+unfolding headStep
+answer-told p e a t l = l .answers
+
+-- C's calls tell and leave what steps by value do
+went : (p : HeadState) (es : List Call) (told : List HeadAnswer) (t : HeadState) → Went p es told t → (told ≡ map answerFor (answered (stateIn p) es)) × (t ≡ placed (stateAfter (stateIn p) es))
+went p [] [] t w = (refl, w ∙ sym (placed-back p))
+went p (e ∷ es) (a ∷ told) t w =
+    let next = next-back p e a (w .0) (w .1) in
+    let rest = went (w .0) es told t (w .2) in
+    (λ i. answer-told p e a (w .0) (w .1) i ∷ (rest .0 ∙ ap (λ (s : State). map answerFor (answered s es)) next) i, rest .1 ∙ ap (λ (s : State). placed (stateAfter s es)) next)
+
+goes-as-ruled : GoesAsRuled
+goes-as-ruled xs r c z es told t w =
+    let s : stateIn (r .state) ≡ (checkedFor (record { lines = xs })) .state = ap (λ (x : HeadChecked). stateIn (x .state)) (c .gives) ∙ state-back ((checkedFor (record { lines = xs })) .state) in
+    let n : (check (record { lines = xs })) .number ≡ 0 = sym (number-same (check (record { lines = xs }))) ∙ sym (ap (λ (x : HeadChecked). x .verdict .number) (c .gives)) ∙ z in
+    let both = went (r .state) es told t w in
+    record {
+      answers = answered (stateIn (r .state)) es;
+      state = stateAfter (stateIn (r .state)) es;
+      told-as = both .0;
+      left-as = both .1;
+      goes = subst (λ (u : State). Goes xs es (answered u es) (stateAfter u es)) (sym s) (steps-go xs n es);
+    }
 
 pub the-claims : Claims
-the-claims = record { reads-back = state-back; places-back = placed-back; answers-apart = answers-apart; verdicts-apart = verdicts-apart }
+the-claims =
+    record {
+      reads-back = state-back;
+      places-back = placed-back;
+      answers-apart = answers-apart;
+      verdicts-apart = verdicts-apart;
+      one-checked = one-checked;
+      one-left = one-left;
+      goes-as-ruled = goes-as-ruled;
+    }

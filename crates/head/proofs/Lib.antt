@@ -1,6 +1,6 @@
 pub mod Copies
 pub mod Back
-pub mod Kept
+pub mod Handing
 pub mod Structs
 pub mod Calls
 pub mod Claims

@@ -11,30 +11,34 @@ use Rattle.head.specs.declared.HeadState.{HeadState}
 use Rattle.head.specs.declared.HeadAnswer.{HeadAnswer}
 use Rattle.head.specs.declared.HeadChecked.{HeadChecked}
 use Rattle.head.specs.declared.HeadStepped.{HeadStepped}
-use Rattle.head.specs.Placed.{placed, stateIn, Kept, answerFor, verdictFor}
+use Rattle.head.specs.Placed.{placed, stateIn, HeadHanded, answerFor, verdictFor}
 
 -- ---- the check
 
+-- what the scheduler's check gives, as C keeps it
 abbrev pub checkedPlaced : Checked → HeadChecked
 checkedPlaced r = record { state = placed (r .state); verdict = verdictFor (r .verdict) }
 
-unfoldable pub judgedOf : TaskTable → HeadChecked
-judgedOf t = checkedPlaced (checkedOf t)
+-- of a table by value
+unfoldable pub checkedTable : TaskTable → HeadChecked
+checkedTable t = checkedPlaced (checkedOf t)
 
 -- what the check gives counts as handed out where its number is 0
-abbrev pub KeptOut : HeadChecked → Type 0
-KeptOut r = r .verdict .number ≡ 0 → Kept (r .state)
+abbrev pub HeadHandedOut : HeadChecked → Type 0
+HeadHandedOut r = r .verdict .number ≡ 0 → HeadHanded (r .state)
 
 -- of lent lines xs the check gives r
 pub record LinesChecked (xs : List Line) (r : HeadChecked) : Type 0 where
   pub gives : r ≡ checkedPlaced (checkedFor (record { lines = xs }))
-  pub hands-out : KeptOut r
+  pub hands-out : HeadHandedOut r
 
 -- ---- the calls
 
+-- what a step gives, as C keeps it
 abbrev pub steppedFor : Stepped → HeadStepped
 steppedFor r = record { state = placed (r .state); answer = answerFor (r .answer) }
 
+-- the rule-book's answer and next state for the state that is read back
 unfoldable pub headStep : HeadState → Call → HeadStepped
 headStep p e = steppedFor (stepOf (stateIn p) e)
 
@@ -45,4 +49,4 @@ pub record Left (p : HeadState) (e : Call) (a : HeadAnswer) (t : HeadState) : Ty
   -- a refused call changes nothing
   pub refused : (a .result ≡ 0 → ⊥) → t ≡ p
   -- what is left is handed on
-  pub kept : Kept t
+  pub handed : HeadHanded t

@@ -44,8 +44,8 @@ unfoldable pub stateIn : HeadState → State
 stateIn p = record { table = p .table; last = p .last; list = record { jobs = map jobIn (p .jobs); count = p .count }; monitor = p .monitor }
 
 -- the state was handed out by the check and has since been changed by nothing but calls
-abbrev pub Kept : HeadState → Type 0
-Kept p = Handed (stateIn p)
+abbrev pub HeadHanded : HeadState → Type 0
+HeadHanded p = Handed (stateIn p)
 
 -- ---- an answer
 

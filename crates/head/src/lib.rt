@@ -2,8 +2,8 @@
 ghost use mathlib.Core.Path.{_≡_};
 ghost use Rattle.rules.specs.declared.Call.the-variants.{Wait, Activate, Terminate, Chain};
 ghost use Rattle.rules.specs.Layer.{isReleased};
-ghost use Rattle.head.specs.Placed.{phaseIn, placedJob, jobIn, placed, stateIn, Kept, runsIn, taskIn, dueIn, numberOf, calledOf, answerFor, verdictFor};
-ghost use Rattle.head.specs.Calls.{judgedOf, KeptOut, LinesChecked, steppedFor, headStep, Left};
+ghost use Rattle.head.specs.Placed.{phaseIn, placedJob, jobIn, placed, stateIn, HeadHanded, runsIn, taskIn, dueIn, numberOf, calledOf, answerFor, verdictFor};
+ghost use Rattle.head.specs.Calls.{checkedTable, HeadHandedOut, LinesChecked, steppedFor, headStep, Left};
 ghost use Rattle.head.specs.Claims.{Claims};
 use jobs::JobList;
 use monitor::Monitor;
@@ -86,7 +86,7 @@ fn released_in(phase: Phase) -> bool
     }
 }
 
-// And back.
+// The phase of a job that C keeps.
 fn phase_in(released: bool) -> Phase
     ensures { λ r. ⌜ r ≡ phaseIn released ⌝ }
 {
@@ -109,7 +109,7 @@ fn placed_job(job: Job) -> HeadJob
     }
 }
 
-// And back.
+// The job that C keeps.
 fn job_in(job: HeadJob) -> Job
     ensures { λ r. ⌜ r ≡ jobIn job ⌝ }
 {
@@ -122,7 +122,7 @@ fn job_in(job: HeadJob) -> Job
 }
 
 // A state as C keeps it.
-fn closed(s: State) -> HeadState
+fn placed(s: State) -> HeadState
     ensures { λ r. ⌜ r ≡ placed s ⌝ }
 {
     let list = s.list;
@@ -149,8 +149,8 @@ fn closed(s: State) -> HeadState
     }
 }
 
-// And back.
-fn opened(p: HeadState) -> State
+// The state that C keeps.
+fn state_in(p: HeadState) -> State
     ensures { λ r. ⌜ r ≡ stateIn p ⌝ }
 {
     let mut jobs = [Job {
@@ -283,14 +283,14 @@ fn verdict_for(v: Verdict) -> HeadVerdict
 // ---- the check by value
 
 // The check of a task table: a fresh state is handed out if it gives 0.
-fn judged(t: TaskTable) -> HeadChecked
-    ensures { λ r. ⌜ (r ≡ judgedOf t) × KeptOut r ⌝ }
+fn checked_table(t: TaskTable) -> HeadChecked
+    ensures { λ r. ⌜ (r ≡ checkedTable t) × HeadHandedOut r ⌝ }
 {
     let checked = scheduler::check(t);
     let state = checked.state;
     let verdict = checked.verdict;
     HeadChecked {
-        state: closed(state),
+        state: placed(state),
         verdict: verdict_for(verdict),
     }
 }
@@ -304,47 +304,47 @@ fn stepped_for(next: Stepped) -> HeadStepped
     let state = next.state;
     let answer = next.answer;
     HeadStepped {
-        state: closed(state),
+        state: placed(state),
         answer: answer_for(answer),
     }
 }
 
 // Tick, by value.
 fn step_tick(p: HeadState, at: Tick) -> HeadStepped
-    requires { ⌜ Kept p ⌝ }
-    ensures { λ r. ⌜ (r ≡ headStep p (Wait at)) × Kept (r .state) ⌝ }
+    requires { ⌜ HeadHanded p ⌝ }
+    ensures { λ r. ⌜ (r ≡ headStep p (Wait at)) × HeadHanded (r .state) ⌝ }
 {
-    let s = opened(p);
+    let s = state_in(p);
     let next = scheduler::tick(s, at);
     stepped_for(next)
 }
 
 // Activate, by value.
 fn step_activate(p: HeadState, at: Tick, task: u8) -> HeadStepped
-    requires { ⌜ Kept p ⌝ }
-    ensures { λ r. ⌜ (r ≡ headStep p (Activate at task)) × Kept (r .state) ⌝ }
+    requires { ⌜ HeadHanded p ⌝ }
+    ensures { λ r. ⌜ (r ≡ headStep p (Activate at task)) × HeadHanded (r .state) ⌝ }
 {
-    let s = opened(p);
+    let s = state_in(p);
     let next = scheduler::activate(s, at, task);
     stepped_for(next)
 }
 
 // Terminate, by value.
 fn step_terminate(p: HeadState, at: Tick) -> HeadStepped
-    requires { ⌜ Kept p ⌝ }
-    ensures { λ r. ⌜ (r ≡ headStep p (Terminate at)) × Kept (r .state) ⌝ }
+    requires { ⌜ HeadHanded p ⌝ }
+    ensures { λ r. ⌜ (r ≡ headStep p (Terminate at)) × HeadHanded (r .state) ⌝ }
 {
-    let s = opened(p);
+    let s = state_in(p);
     let next = scheduler::terminate(s, at);
     stepped_for(next)
 }
 
 // Chain, by value.
 fn step_chain(p: HeadState, at: Tick, task: u8) -> HeadStepped
-    requires { ⌜ Kept p ⌝ }
-    ensures { λ r. ⌜ (r ≡ headStep p (Chain at task)) × Kept (r .state) ⌝ }
+    requires { ⌜ HeadHanded p ⌝ }
+    ensures { λ r. ⌜ (r ≡ headStep p (Chain at task)) × HeadHanded (r .state) ⌝ }
 {
-    let s = opened(p);
+    let s = state_in(p);
     let next = scheduler::chain(s, at, task);
     stepped_for(next)
 }
@@ -357,19 +357,19 @@ pub extern "C" fn head_check(lines: &[Line]) -> HeadChecked
     ensures { λ r. ⌜ LinesChecked (now (lines .entry)) r ⌝ }
 {
     let mut copy = table::begun(lines.len());
-    let n = table::few(lines.len());
+    let n = table::lines_read(lines.len());
     let mut i = 0;
     while i < n {
         copy = table::pushed(copy, lines[i]);
         i += 1;
     }
-    judged(copy)
+    checked_table(copy)
 }
 
 // Tick: time moves; no kernel call.
 #[no_mangle]
 pub extern "C" fn head_tick(s: &mut HeadState, at: Tick) -> HeadAnswer
-    requires { ⌜ Kept (now s) ⌝ }
+    requires { ⌜ HeadHanded (now s) ⌝ }
     ensures { λ r. ⌜ Left (now (s .entry)) (Wait at) r (now (s .exit)) ⌝ }
 {
     let next = step_tick(*s, at);
@@ -377,10 +377,10 @@ pub extern "C" fn head_tick(s: &mut HeadState, at: Tick) -> HeadAnswer
     next.answer
 }
 
-// Activate: a new job of the task goes into the list, and is released if it is first.
+// Activate: a new job of the task goes into the list. If it is first it is released by ActivateTask; otherwise no kernel call.
 #[no_mangle]
 pub extern "C" fn head_activate(s: &mut HeadState, at: Tick, task: u8) -> HeadAnswer
-    requires { ⌜ Kept (now s) ⌝ }
+    requires { ⌜ HeadHanded (now s) ⌝ }
     ensures { λ r. ⌜ Left (now (s .entry)) (Activate at task) r (now (s .exit)) ⌝ }
 {
     let next = step_activate(*s, at, task);
@@ -388,10 +388,10 @@ pub extern "C" fn head_activate(s: &mut HeadState, at: Tick, task: u8) -> HeadAn
     next.answer
 }
 
-// Terminate: the running job leaves the list.
+// Terminate: the running job leaves the list. If the new first job is delayed it is released by ChainTask; otherwise TerminateTask.
 #[no_mangle]
 pub extern "C" fn head_terminate(s: &mut HeadState, at: Tick) -> HeadAnswer
-    requires { ⌜ Kept (now s) ⌝ }
+    requires { ⌜ HeadHanded (now s) ⌝ }
     ensures { λ r. ⌜ Left (now (s .entry)) (Terminate at) r (now (s .exit)) ⌝ }
 {
     let next = step_terminate(*s, at);
@@ -399,10 +399,10 @@ pub extern "C" fn head_terminate(s: &mut HeadState, at: Tick) -> HeadAnswer
     next.answer
 }
 
-// Chain: the running job leaves, and the named task's job is inserted at the same tick.
+// Chain: the running job leaves, the named task's job is inserted at the same tick, then as for terminate.
 #[no_mangle]
 pub extern "C" fn head_chain(s: &mut HeadState, at: Tick, task: u8) -> HeadAnswer
-    requires { ⌜ Kept (now s) ⌝ }
+    requires { ⌜ HeadHanded (now s) ⌝ }
     ensures { λ r. ⌜ Left (now (s .entry)) (Chain at task) r (now (s .exit)) ⌝ }
 {
     let next = step_chain(*s, at, task);

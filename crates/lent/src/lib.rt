@@ -62,7 +62,7 @@ pub fn write_table(lines: [Line; MOST_LINES], count: usize, buf: &mut [u8]) -> W
 
 // ---- the calls
 
-// Tick: time moves; no kernel call.
+// As `board::tick`, on a state that is lent to it and comes back.
 pub fn tick(s: State, at: Tick) -> Stepped
     requires { ⌜ Handed s ⌝ }
     ensures { λ r. ⌜ (r ≡ stepOf s (Wait at)) × Handed (r .state) ⌝ }
@@ -75,7 +75,7 @@ pub fn tick(s: State, at: Tick) -> Stepped
     }
 }
 
-// Activate: a new job of the task goes into the list, and is released if it is first.
+// As `board::activate`.
 pub fn activate(s: State, at: Tick, task: u8) -> Stepped
     requires { ⌜ Handed s ⌝ }
     ensures { λ r. ⌜ (r ≡ stepOf s (Activate at task)) × Handed (r .state) ⌝ }
@@ -88,7 +88,7 @@ pub fn activate(s: State, at: Tick, task: u8) -> Stepped
     }
 }
 
-// Terminate: the running job leaves the list.
+// As `board::terminate`.
 pub fn terminate(s: State, at: Tick) -> Stepped
     requires { ⌜ Handed s ⌝ }
     ensures { λ r. ⌜ (r ≡ stepOf s (Terminate at)) × Handed (r .state) ⌝ }
@@ -101,7 +101,7 @@ pub fn terminate(s: State, at: Tick) -> Stepped
     }
 }
 
-// Chain: the running job leaves, and the named task's job is inserted at the same tick.
+// As `board::chain`.
 pub fn chain(s: State, at: Tick, task: u8) -> Stepped
     requires { ⌜ Handed s ⌝ }
     ensures { λ r. ⌜ (r ≡ stepOf s (Chain at task)) × Handed (r .state) ⌝ }

@@ -13,24 +13,24 @@ use Rattle.rules.specs.Words.{places}
 use Rattle.rules.specs.Table.{noLine}
 use Rattle.table.specs.declared.TaskTable.{TaskTable}
 use Rattle.table.specs.Lines.{packed, linesIn}
-use Rattle.table.specs.Copy.{Copy, few, begun, pushed, copy, asTable, fewOf, begunOf, pushedOf}
+use Rattle.table.specs.Copy.{Copy, linesRead, begun, pushed, copy, asTable, linesReadOf, begunOf, pushedOf}
 use Rattle.table.proofs.Packed.{kept-lines, count-packed, packed-length}
 
 -- ---- how many are read
 
 module _ (p n : ℕ) where
-  pub few-all : n ≤ p → few p n ≡ n
-  few-all h = rw (le-leb n p h)
+  pub reads-all : n ≤ p → linesRead p n ≡ n
+  reads-all h = rw (le-leb n p h)
 
-  pub few-none : p < n → few p n ≡ 0
-  few-none h = rw (lt-leb n p h)
+  pub reads-none : p < n → linesRead p n ≡ 0
+  reads-none h = rw (lt-leb n p h)
 
-  pub few-le : few p n ≤ n
-  few-le = go (decLe n p)
+  pub reads-le : linesRead p n ≤ n
+  reads-le = go (decLe n p)
     where
-      go : Dec (n ≤ p) → few p n ≤ n
-      go (yes h) = rw (few-all h) (omega arith)
-      go (no h) = rw (few-none (omega arith)) (omega arith)
+      go : Dec (n ≤ p) → linesRead p n ≤ n
+      go (yes h) = rw (reads-all h) (omega arith)
+      go (no h) = rw (reads-none (omega arith)) (omega arith)
 
 -- ---- one line more
 
@@ -77,13 +77,13 @@ module _ (p : ℕ) where
   pub copy-few : (xs : List Line) → length xs ≤ p → copy p xs ≡ laid p xs
   copy-few xs h =
       let z : length xs - length xs ≡ 0 = omega arith in
-      rw (few-all p (length xs) h, z, take-length xs) (ap (λ (c : Copy). foldl (pushed p) c xs) (sym none-laid) ∙ push-all xs [] (omega arith))
+      rw (reads-all p (length xs) h, z, take-length xs) (ap (λ (c : Copy). foldl (pushed p) c xs) (sym none-laid) ∙ push-all xs [] (omega arith))
 
   -- of others the count
   pub copy-many : (xs : List Line) → p < length xs → copy p xs ≡ record { lines = replicate p noLine; count = length xs }
   copy-many xs h =
       let z : length xs - 0 ≡ length xs = omega arith in
-      rw (few-none p (length xs) h, z)
+      rw (reads-none p (length xs) h, z)
 
 -- ---- as a struct
 
@@ -92,9 +92,9 @@ pub copied-in : {C : Type 0} (keeps : Copy → C) (push : C → Line → C) (p :
 copied-in keeps push p same [] c = refl
 copied-in keeps push p same (x ∷ xs) c = ap (λ k. foldl push k xs) (same c x) ∙ copied-in keeps push p same xs (pushed p c x)
 
-pub copied-table : (xs : List Line) → foldl pushedOf (begunOf (length xs)) (take (fewOf (length xs)) xs) ≡ asTable (copy places xs)
-unfolding fewOf begunOf pushedOf
-copied-table xs = copied-in asTable pushedOf places (λ c x. refl) (take (few places (length xs)) xs) (begun places (length xs))
+pub copied-table : (xs : List Line) → foldl pushedOf (begunOf (length xs)) (take (linesReadOf (length xs)) xs) ≡ asTable (copy places xs)
+unfolding linesReadOf begunOf pushedOf
+copied-table xs = copied-in asTable pushedOf places (λ c x. refl) (take (linesRead places (length xs)) xs) (begun places (length xs))
 
 -- up to 32 lines are laid out as a table is kept; of more there is the count
 table-few : (xs : List Line) → length xs ≤ places → asTable (copy places xs) ≡ packed xs

@@ -17,27 +17,29 @@ pub record Copy : Type 0 where
   pub count : ℕ
 
 -- how many of n lines are read: none, if they have no place
-abbrev pub few : ℕ → ℕ → ℕ
-few p n = cond (leb n p) n 0
+abbrev pub linesRead : ℕ → ℕ → ℕ
+linesRead p n = cond (leb n p) n 0
 
 -- the copy before its first line: of lines that are not read it holds the count
 abbrev pub begun : ℕ → ℕ → Copy
-begun p n = record { lines = replicate p noLine; count = n - few p n }
+begun p n = record { lines = replicate p noLine; count = n - linesRead p n }
 
 -- one line more, if it has a place
 abbrev pub pushed : ℕ → Copy → Line → Copy
 pushed p c x = cond (ltb (c .count) p) (record { lines = set (c .lines) (c .count) x; count = c .count + 1 }) c
 
+-- lines xs, one after the other
 abbrev pub copy : ℕ → List Line → Copy
-copy p xs = foldl (pushed p) (begun p (length xs)) (take (few p (length xs)) xs)
+copy p xs = foldl (pushed p) (begun p (length xs)) (take (linesRead p (length xs)) xs)
 
 -- ---- with the 32 places of a table
 
+-- a copy as a table, and what `lines_read`, `begun` and `pushed` give there
 abbrev pub asTable : Copy → TaskTable
 asTable c = record { lines = c .lines; count = c .count }
 
-unfoldable pub fewOf : ℕ → ℕ
-fewOf n = few places n
+unfoldable pub linesReadOf : ℕ → ℕ
+linesReadOf n = linesRead places n
 
 unfoldable pub begunOf : ℕ → TaskTable
 begunOf n = asTable (begun places n)

@@ -19,7 +19,7 @@ lineAt lines n = getD lines n noLine
 abbrev pub linesIn : TaskTable → List Line
 linesIn t = take (t .count) (t .lines)
 
--- the table that was given: its first 32 lines were copied, and of those past them only the count is known
+-- the table that was given: what stands in the 32 places, and of lines past them only the count is known
 abbrev pub given : TaskTable → Table
 given t = record { lines = linesIn t ++ replicate (t .count - places) noLine }
 

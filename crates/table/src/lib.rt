@@ -6,7 +6,7 @@ ghost use Prim.Native.Nat.{_≤_};
 ghost use Rattle.rules.specs.Words.{places};
 ghost use Rattle.rules.specs.Table.{noLine, fine, breaks, check, rangesFrom, limits, pairsFrom};
 ghost use Rattle.table.specs.Lines.{packed, lineAt, given, linesIn, lineRefusal};
-ghost use Rattle.table.specs.Copy.{fewOf, begunOf, pushedOf};
+ghost use Rattle.table.specs.Copy.{linesReadOf, begunOf, pushedOf};
 use rules::Line;
 use rules::Named;
 use rules::PLACES;
@@ -16,7 +16,7 @@ use rules::Verdict;
 // The longest relative deadline.
 const LONGEST: u64 = 1000000000;
 
-// The first 32 lines, and how many there are. Places at and past the count are blank in a table that is kept.
+// Up to 32 lines, and how many there are; of more the count alone decides. Places at and past the count are blank in a table that is kept.
 #[repr(C)]
 pub struct TaskTable {
     pub lines: [Line; PLACES],
@@ -209,8 +209,8 @@ pub fn empty() -> TaskTable
 // ---- a copy of lent lines, one after the other
 
 // How many of so many lines are copied: of more than 32 none, since their count alone refuses them.
-pub fn few(given: usize) -> usize
-    ensures { λ r. ⌜ r ≡ fewOf given ⌝ }
+pub fn lines_read(given: usize) -> usize
+    ensures { λ r. ⌜ r ≡ linesReadOf given ⌝ }
 {
     if given <= PLACES { given } else { 0 }
 }
@@ -223,7 +223,7 @@ pub fn begun(given: usize) -> TaskTable
     let lines = none.lines;
     TaskTable {
         lines,
-        count: given - few(given),
+        count: given - lines_read(given),
     }
 }
 

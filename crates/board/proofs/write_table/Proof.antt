@@ -5,7 +5,7 @@ use denote.Triple.Spec.{tripleOf}
 use denote.Triple.Table.{entered, cited}
 use Rattle.rules.specs.Tape.{TableWrote}
 use Rattle.tape.specs.declared.LineCopy.{LineCopy}
-use Rattle.tape.specs.Tables.{givenLines, copyOf}
+use Rattle.tape.specs.Tables.{givenLines, copied}
 use Rattle.tape.proofs.Copying.{copy-wrote}
 use Rattle.tape.proofs.write_copy.Symbol as put-def
 use Rattle.tape.proofs.write_copy.Met as put-thm
@@ -22,7 +22,7 @@ abbrev this : Relay line line-copy written
 this = record {
   copying = copy-def.name;
   putting = put-def.name;
-  Copies = λ ys c. c ≡ copyOf ys;
+  Copies = λ ys c. c ≡ copied ys;
   Puts = λ c old r new. TableWrote (givenLines (c .lines) (c .count)) old r new;
   Says = λ ys old r new. TableWrote (record { lines = ys }) old r new;
   says-so = λ ys c old r new e w. copy-wrote ys old r new (subst (λ (t : LineCopy). TableWrote (givenLines (t .lines) (t .count)) old r new) e w);

@@ -1,24 +1,24 @@
--- `head::head_check` meets its contract: it reads lent lines (`board`, `Lines.antt`) for `judged`. Assumes nothing.
+-- `head::head_check` meets its contract: it reads lent lines (`board`, `Lines.antt`) for `checked_table`. Assumes nothing.
 use mathlib.Core.Path.{_≡_}
 use contract.Running.{givenOf, tables, tablesOf}
 use denote.Triple.Spec.{tripleOf}
 use denote.Triple.Table.{entered, cited}
 use Rattle.rules.specs.Table.{noLine}
-use Rattle.table.specs.Copy.{fewOf, begunOf, pushedOf}
+use Rattle.table.specs.Copy.{linesReadOf, begunOf, pushedOf}
 use Rattle.table.proofs.begun.Symbol as begin-def
 use Rattle.table.proofs.begun.Met as begin-thm
-use Rattle.table.proofs.few.Symbol as few-def
-use Rattle.table.proofs.few.Met as few-thm
+use Rattle.table.proofs.lines_read.Symbol as few-def
+use Rattle.table.proofs.lines_read.Met as few-thm
 use Rattle.table.proofs.pushed.Symbol as push-def
 use Rattle.table.proofs.pushed.Met as push-thm
-use Rattle.board.proofs.Copies.{few-reads}
+use Rattle.board.proofs.Copies.{table-reads-le}
 use Rattle.board.proofs.Structs.{line, table}
 use Rattle.board.proofs.Lines.{Reader, Begin, Few, Push, Finish, reads-lines}
-use Rattle.head.specs.Calls.{judgedOf, KeptOut, LinesChecked}
-use Rattle.head.proofs.Kept.{checks-lines}
+use Rattle.head.specs.Calls.{checkedTable, HeadHandedOut, LinesChecked}
+use Rattle.head.proofs.Handing.{checks-lines}
 use Rattle.head.proofs.Structs.{checked}
-use Rattle.head.proofs.judged.Symbol as finish-def
-use Rattle.head.proofs.judged.Met as finish-thm
+use Rattle.head.proofs.checked_table.Symbol as finish-def
+use Rattle.head.proofs.checked_table.Met as finish-thm
 use Rattle.head.proofs.head_check.Key.{name as #head·head-check}
 use Rattle.head.proofs.head_check as f
 use Rattle.head.proofs.head_check.Statement as stated
@@ -31,11 +31,11 @@ this = record {
   push = push-def.name;
   finish = finish-def.name;
   start = begunOf;
-  reads = fewOf;
+  reads = linesReadOf;
   put = pushedOf;
-  Gives = λ t r. (r ≡ judgedOf t) × KeptOut r;
+  Gives = λ t r. (r ≡ checkedTable t) × HeadHandedOut r;
   Says = λ ys r. LinesChecked ys r;
-  reads-few = few-reads;
+  reads-few = table-reads-le;
   says-so = checks-lines;
   some-line = noLine;
   small = tt;
@@ -48,6 +48,6 @@ head-check-spec 𝓤 H 𝓜 𝓖 𝓡 =
     (tables 𝓤 H 𝓜 𝓡 code.env .C) (tables 𝓤 H 𝓜 𝓡 code.env .Λ) #head·head-check code.function (code.unfolded 𝓤 H 𝓜 𝓡)
     (reads-lines this 𝓤 H (𝓖 .A) (givenOf 𝓤 H 𝓜 𝓖) (tablesOf 𝓤 H 𝓜 (tables 𝓤 H 𝓜 𝓡 code.env))
     (cited 𝓤 H (Begin this 𝓤 H (𝓖 .A)) 𝓜 𝓡 code.env begin-def.name begin-def.routine code.calls-table·begun (begin-thm.met 𝓤 H 𝓜 𝓖 𝓡))
-    (cited 𝓤 H (Few this 𝓤 H (𝓖 .A)) 𝓜 𝓡 code.env few-def.name few-def.routine code.calls-table·few (few-thm.met 𝓤 H 𝓜 𝓖 𝓡))
+    (cited 𝓤 H (Few this 𝓤 H (𝓖 .A)) 𝓜 𝓡 code.env few-def.name few-def.routine code.calls-table·lines-read (few-thm.met 𝓤 H 𝓜 𝓖 𝓡))
     (cited 𝓤 H (Push this 𝓤 H (𝓖 .A)) 𝓜 𝓡 code.env push-def.name push-def.routine code.calls-table·pushed (push-thm.met 𝓤 H 𝓜 𝓖 𝓡))
-    (cited 𝓤 H (Finish this 𝓤 H (𝓖 .A)) 𝓜 𝓡 code.env finish-def.name finish-def.routine code.calls-head·judged (finish-thm.met 𝓤 H 𝓜 𝓖 𝓡)))
+    (cited 𝓤 H (Finish this 𝓤 H (𝓖 .A)) 𝓜 𝓡 code.env finish-def.name finish-def.routine code.calls-head·checked-table (finish-thm.met 𝓤 H 𝓜 𝓖 𝓡)))
