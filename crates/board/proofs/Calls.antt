@@ -33,7 +33,7 @@ at-tick step e = record {
   key = step;
   Ok = λ s at. Handed s;
   Gives = λ s at r. (r ≡ stepOf s (e at)) × Handed (r .state);
-  Says = λ s at a s′. Left s (e at) a s′;
+  Says = λ s at a t. Left s (e at) a t;
   says-so = λ s at r ok g. left s (e at) r ok g;
 }
 
@@ -43,6 +43,6 @@ at-task step e = record {
   key = step;
   Ok = λ s at n. Handed s;
   Gives = λ s at n r. (r ≡ stepOf s (e at n)) × Handed (r .state);
-  Says = λ s at n a s′. Left s (e at n) a s′;
+  Says = λ s at n a t. Left s (e at n) a t;
   says-so = λ s at n r ok g. left s (e at n) r ok g;
 }

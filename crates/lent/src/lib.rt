@@ -11,6 +11,7 @@ ghost use Rattle.board.specs.Lent.{LinesChecked};
 use rules::Call;
 use rules::Line;
 use rules::PLACES;
+use rules::Span;
 use rules::Tick;
 use rules::Written;
 use scheduler::Checked;
@@ -29,7 +30,15 @@ fn check_part(lines: [Line; PLACES], n: usize) -> Checked
     board::check(&lines[..n])
 }
 
-// The check of a table, as `scheduler::check`. Up to 32 lines are lent; more have no place to be lent from.
+// The same of lines of which there is one more than a table may have.
+fn check_more(lines: [Line; 33], n: usize) -> Checked
+    requires { ⌜ n ≤ 33 ⌝ }
+    ensures { λ r. ⌜ LinesChecked (take n lines) r ⌝ }
+{
+    board::check(&lines[..n])
+}
+
+// The check of a table, as `scheduler::check`. Up to 32 lines are lent; of more the count alone decides, so any 33 are.
 pub fn check(given: TaskTable) -> Checked
     ensures { λ r. ⌜ (r ≡ checkedOf given) × HandedOut r ⌝ }
 {
@@ -37,7 +46,12 @@ pub fn check(given: TaskTable) -> Checked
         let lines = given.lines;
         return check_part(lines, given.count);
     }
-    scheduler::check(given)
+    let lines = [Line {
+        deadline: Span(0),
+        priority: 0,
+        limit: 0,
+    }; 33];
+    check_more(lines, 33)
 }
 
 // ---- the table on tape
@@ -50,14 +64,27 @@ fn write_part(lines: [Line; MOST_LINES], n: usize, buf: &mut [u8]) -> Written
     board::write_table(&lines[..n], buf)
 }
 
-// The table, as `tape::write_table`. Up to 255 lines are lent; more have no place to be lent from.
+// The same of lines of which there is one more than a tape may have.
+fn write_more(lines: [Line; 256], n: usize, buf: &mut [u8]) -> Written
+    requires { ⌜ n ≤ 256 ⌝ }
+    ensures { λ r. ⌜ TableWrote (record { lines = take n lines }) (now (buf .entry)) r (now (buf .exit)) ⌝ }
+{
+    board::write_table(&lines[..n], buf)
+}
+
+// The table, as `tape::write_table`. Up to 255 lines are lent; of more the count alone decides, so any 256 are.
 pub fn write_table(lines: [Line; MOST_LINES], count: usize, buf: &mut [u8]) -> Written
     ensures { λ r. ⌜ TableWrote (givenLines lines count) (now (buf .entry)) r (now (buf .exit)) ⌝ }
 {
     if count <= MOST_LINES {
         return write_part(lines, count, buf);
     }
-    tape::write_table(lines, count, buf)
+    let more = [Line {
+        deadline: Span(0),
+        priority: 0,
+        limit: 0,
+    }; 256];
+    write_more(more, 256, buf)
 }
 
 // ---- the calls

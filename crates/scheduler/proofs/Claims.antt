@@ -41,7 +41,7 @@ reads-back T h r = record { table = table-back T h; head = head-back T h r }
 over : (U : Table) → places < size U → check U ≡ verdict 1 NoneNamed
 over U m = check-exact U (verdict 1 NoneNamed) .1 (row-1 (λ w. omega (arith, w .1)))
 
-told-over : (U : Table) → places < size U → checkedFor U ≡ record { state = stateOf (record { lines = [] }) freshHead; verdict = verdict 1 NoneNamed }
+pub told-over : (U : Table) → places < size U → checkedFor U ≡ record { state = stateOf (record { lines = [] }) freshHead; verdict = verdict 1 NoneNamed }
 told-over U m = λ i. record { state = stateOf (unless ((over U m i) .number) (record { lines = [] }) U) freshHead; verdict = over U m i }
 
 -- a copy gives its table, or one of as many lines
