@@ -5,14 +5,16 @@
  *   head_tick, head_activate, head_terminate, head_chain
  *                     with that state, which they update where it stands. After each the caller makes the
  *                     kernel call that the answer names, before any other call on this state: the library
- *                     makes none. A task number is a line's place in the table; which task of the kernel
- *                     that is, the caller knows.
+ *                     makes none. head_terminate and head_chain are called in the job that runs, at its
+ *                     end: TerminateTask and ChainTask end the task that calls them. A task number is a
+ *                     line's place in the table; which task of the kernel that is, the caller knows.
  *
  * A call asks for one thing: the state was handed out by head_check with number 0, and nothing but these calls
- * has changed it since. Of any other state nothing is promised, not even that a call stays within it. Any tick
- * and any task number will do. What each call answers and leaves is proved (crates/head/specs); a refused call
- * leaves every field as it was. Between calls the state may be read: `monitor.tallies[task]` has what is counted.
- * Padding has no meaning, and a call may change it: compare states field by field.
+ * has changed it since. Of any other state nothing is promised, not even that a call stays within it. Go on from
+ * what the last call left: an older copy, put back, is out of step with the kernel. Any tick and any task number
+ * will do. What each call answers and leaves is proved (crates/head/specs); a refused call leaves every field as
+ * it was. Between calls the state may be read: `monitor.tallies[task]` has what is counted. Padding has no
+ * meaning, and a call may change it: compare states field by field.
  *
  * A state goes with a kernel: what runs is what the kernel runs if all that it runs are jobs of this state. Tasks
  * of several heads that share a processor are lines of one table.
@@ -47,8 +49,8 @@ struct HeadSpan {
 /* A line of the task table. Its place from 0 is its task number. */
 struct HeadLine {
     struct HeadSpan deadline; /* relative, 1 to 1,000,000,000 */
-    uint8_t priority;     /* 0 is the lowest */
-    uint8_t limit;        /* pending jobs of the task, 1 to 32 */
+    uint8_t priority;         /* 0 is the lowest */
+    uint8_t limit;            /* pending jobs of the task, 1 to 32 */
 };
 
 /* The lines, and how many there are; places past them are 0. */
@@ -79,7 +81,7 @@ struct HeadMonitor {
 /* The scheduler state of a recorder head. */
 struct HeadState {
     struct HeadTable table;
-    struct HeadTick last;                 /* the last accepted call's tick */
+    struct HeadTick last;             /* the last accepted call's tick */
     struct HeadJob jobs[HEAD_PLACES]; /* by deadline, earliest first; places past the count are 0 */
     size_t count;
     struct HeadMonitor monitor;
@@ -101,12 +103,12 @@ enum {
 
 /* What a call returns. */
 struct HeadAnswer {
-    uint8_t result;  /* one of the numbers below */
-    bool runs;       /* whether a job runs after the call */
-    uint8_t task;    /* its task, or 0 */
+    uint8_t result;      /* one of the numbers below */
+    bool runs;           /* whether a job runs after the call */
+    uint8_t task;        /* its task, or 0 */
     struct HeadTick due; /* its deadline, or 0 */
-    uint8_t call;    /* the kernel call to make now */
-    uint8_t called;  /* the task that it names (ActivateTask, ChainTask), or 0 */
+    uint8_t call;        /* the kernel call to make now */
+    uint8_t called;      /* the task that it names (ActivateTask, ChainTask), or 0 */
     struct HeadLate late;
 };
 

@@ -8,3 +8,4 @@ pub mod Relay
 pub mod Structs
 pub mod Thin1
 pub mod Thin2
+mod Outcomes

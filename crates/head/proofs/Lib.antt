@@ -4,3 +4,4 @@ pub mod Handing
 pub mod Structs
 pub mod Calls
 pub mod Claims
+mod Outcomes

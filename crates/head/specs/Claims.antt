@@ -1,12 +1,14 @@
 -- All that is claimed of what C is given beside the promises of its check and calls; proofs/Claims.antt proves it. Assumes nothing.
 use mathlib.Core.Path.{_≡_}
-use mathlib.Core.List.{List, [], _∷_, map}
+use mathlib.Core.List.{List, map}
 use Rattle.rules.specs.declared.Answer.{Answer}
 use Rattle.rules.specs.declared.Call.{Call}
 use Rattle.rules.specs.declared.Line.{Line}
 use Rattle.rules.specs.declared.Verdict.{Verdict}
+use Rattle.rules.specs.Outcome.{One, OneWith}
 use Rattle.scheduler.specs.declared.State.{State}
-use Rattle.board.specs.Claims.{Goes}
+use Rattle.scheduler.specs.Claims.{Goes}
+use Rattle.board.specs.Claims.{Went}
 use Rattle.head.specs.declared.HeadState.{HeadState}
 use Rattle.head.specs.declared.HeadAnswer.{HeadAnswer}
 use Rattle.head.specs.declared.HeadChecked.{HeadChecked}
@@ -31,19 +33,13 @@ VerdictsApart = (v w : Verdict) → verdictFor v ≡ verdictFor w → v ≡ w
 
 -- any two that satisfy the check's promise are equal
 abbrev pub OneChecked : Type 0
-OneChecked = (xs : List Line) (r r′ : HeadChecked) → LinesChecked xs r → LinesChecked xs r′ → r ≡ r′
+OneChecked = (xs : List Line) → One (LinesChecked xs)
 
 -- and any two that satisfy a call's
 abbrev pub OneLeft : Type 0
-OneLeft = (p : HeadState) (e : Call) (a a′ : HeadAnswer) (t t′ : HeadState) → Left p e a t → Left p e a′ t′ → (a ≡ a′) × (t ≡ t′)
+OneLeft = (p : HeadState) (e : Call) → OneWith (Left p e)
 
 -- ---- a whole run: the check of lent lines, then any sequence of calls on the state that it gave, each where the one before left it
-
-abbrev pub Went : HeadState → List Call → List HeadAnswer → HeadState → Type 0
-Went p [] [] t = t ≡ p
-Went p [] (a ∷ told) t = ⊥
-Went p (e ∷ es) [] t = ⊥
-Went p (e ∷ es) (a ∷ told) t = (u : HeadState) × Left p e a u × Went u es told t
 
 -- what C is told and what is left are the answers and the state of demands 2 and 3
 pub record HeadGoes (xs : List Line) (es : List Call) (told : List HeadAnswer) (t : HeadState) : Type 0 where
@@ -51,10 +47,10 @@ pub record HeadGoes (xs : List Line) (es : List Call) (told : List HeadAnswer) (
   pub state : State
   pub told-as : told ≡ map answerFor answers
   pub left-as : t ≡ placed state
-  pub goes : Goes xs es answers state
+  pub goes : Goes (record { lines = xs }) es answers state
 
 abbrev pub GoesAsRuled : Type 0
-GoesAsRuled = (xs : List Line) (r : HeadChecked) → LinesChecked xs r → r .verdict .number ≡ 0 → (es : List Call) (told : List HeadAnswer) (t : HeadState) → Went (r .state) es told t → HeadGoes xs es told t
+GoesAsRuled = (xs : List Line) (r : HeadChecked) → LinesChecked xs r → r .verdict .number ≡ 0 → (es : List Call) (told : List HeadAnswer) (t : HeadState) → Went Left (r .state) es told t → HeadGoes xs es told t
 
 pub record Claims : Type 0 where
   pub reads-back : ReadsBack

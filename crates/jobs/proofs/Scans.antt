@@ -1,12 +1,12 @@
 -- Loops that read a list from the front: a turn, and the end. Assumes nothing.
-use Prim.Native.Nat.{ℕ, suc, _≤_}
+use Prim.Native.Nat.{ℕ, zero, suc, _≤_, _<_}
 use mathlib.Core.Path.{_≡_, refl, sym, ap, _∙_}
 use mathlib.Core.Bool.{Bool, true, false, cond}
 use mathlib.Core.List.{List, [], _∷_}
 use native.Mathlib.Omega.{arith}
 use borrow.Author.Tests.{eq-eqb, ne-eqb}
 use lib.Dec.{eqb, eqb·suc-zero}
-use lib.ListN.{length, set, getD}
+use lib.ListN.{length, set, getD, take}
 use Rattle.rules.specs.Words.{places}
 use Rattle.rules.specs.declared.Job.{Job}
 use Rattle.rules.specs.declared.Phase.{Phase}
@@ -42,21 +42,23 @@ place-le j (x ∷ xs) = go (goesBefore j x) (place-le j xs)
 
 -- ---- the first job
 
-first-packed : (xs : List Job) → length xs ≤ places → getD (pack xs .jobs) 0 blankJob ≡ firstIn xs
-unfolding pack firstIn
-first-packed [] h = refl
-first-packed (x ∷ xs) h = refl
+first-in-some : (n : ℕ) (xs : List Job) → 0 < length xs → cond (eqb n 0) blankJob (getD xs 0 blankJob) ≡ firstIn (take n xs)
+unfolding firstIn
+first-in-some zero xs h = refl
+first-in-some (suc n) [] h = absurd (omega (arith, h))
+first-in-some (suc n) (x ∷ xs) h = rw (eqb·suc-zero n)
 
-pub first-law : (l : JobList) → Shaped l → getD (l .jobs) 0 blankJob ≡ firstIn (view l)
-first-law l s = through (λ (x : JobList). getD (x .jobs) 0 blankJob) firstIn first-packed l s
+pub first-law : (l : JobList) → 0 < length (l .jobs) → cond (eqb (l .count) 0) blankJob (getD (l .jobs) 0 blankJob) ≡ firstIn (view l)
+first-law l h = first-in-some (l .count) (l .jobs) h
 
-is-first-packed : (j : Job) (xs : List Job) → length xs ≤ places → cond (eqb (pack xs .count) 0) true (goesBefore j (getD (pack xs .jobs) 0 blankJob)) ≡ isFirstIn j xs
-unfolding pack isFirstIn
-is-first-packed j [] h = refl
-is-first-packed j (x ∷ xs) h = rw (eqb·suc-zero (length xs))
+first-of-some : (j : Job) (n : ℕ) (xs : List Job) → 0 < length xs → cond (eqb n 0) true (goesBefore j (getD xs 0 blankJob)) ≡ isFirstIn j (take n xs)
+unfolding isFirstIn
+first-of-some j zero xs h = refl
+first-of-some j (suc n) [] h = absurd (omega (arith, h))
+first-of-some j (suc n) (x ∷ xs) h = rw (eqb·suc-zero n)
 
-pub is-first-law : (l : JobList) (j : Job) → Shaped l → cond (eqb (l .count) 0) true (goesBefore j (getD (l .jobs) 0 blankJob)) ≡ isFirstIn j (view l)
-is-first-law l j s = through (λ (x : JobList). cond (eqb (x .count) 0) true (goesBefore j (getD (x .jobs) 0 blankJob))) (isFirstIn j) (is-first-packed j) l s
+pub is-first-law : (l : JobList) (j : Job) → 0 < length (l .jobs) → cond (eqb (l .count) 0) true (goesBefore j (getD (l .jobs) 0 blankJob)) ≡ isFirstIn j (view l)
+is-first-law l j h = first-of-some j (l .count) (l .jobs) h
 
 abbrev phased : Phase → Job → Job
 phased p x = record { due = x .due; task = x .task; phase = p }

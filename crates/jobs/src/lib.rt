@@ -102,7 +102,6 @@ fn place(list: JobList, job: Job) -> usize
 
 // Whether a new job would be first.
 pub fn is_first(list: JobList, job: Job) -> bool
-    requires { ⌜ Shaped list ⌝ }
     ensures { λ r. ⌜ r ≡ isFirstIn job (view list) ⌝ }
 {
     if list.count == 0 {
@@ -141,7 +140,7 @@ pub fn remove(list: JobList, at: usize) -> JobList
 
 // How many jobs of a task are pending from a place on.
 pub fn pending_from(list: JobList, start: usize, task: u8) -> usize
-    requires { ⌜ Shaped list × (start ≤ list .count) ⌝ }
+    requires { ⌜ Shaped list ⌝ }
     ensures { λ r. ⌜ r ≡ pendingOf task (drop start (view list)) ⌝ }
 {
     let n = list.count;
@@ -159,9 +158,11 @@ pub fn pending_from(list: JobList, start: usize, task: u8) -> usize
 
 // The first job; a blank one where there is none.
 pub fn first(list: JobList) -> Job
-    requires { ⌜ Shaped list ⌝ }
     ensures { λ r. ⌜ r ≡ firstIn (view list) ⌝ }
 {
+    if list.count == 0 {
+        return blank();
+    }
     list.jobs[0]
 }
 

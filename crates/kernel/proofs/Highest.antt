@@ -10,7 +10,7 @@ use lib.Seq.{append-snoc}
 use Rattle.rules.specs.declared.Phase.{Phase}
 use Rattle.rules.specs.declared.Phase.the-variants.{Delayed, Released}
 use Rattle.rules.specs.declared.Line.{Line}
-use Rattle.rules.specs.declared.Job.{Job}
+use Rattle.rules.specs.declared.Job.{Job as Entry}
 use Rattle.rules.specs.Words.{All}
 use Rattle.rules.proofs.Lists.{all-map, all-append}
 use Rattle.kernel.specs.declared.Found.{Found}
@@ -28,15 +28,15 @@ not-both s d r = let z : _≡_ {A = ℕ} 0 1 = cc in omega arith
 
 module _ (lines : List Line) where
   -- what is found is the best of xs, and t is its priority
-  abbrev IsBest : List Job → Found → ℕ → Type 0
+  abbrev IsBest : List Entry → Found → ℕ → Type 0
   IsBest xs Nothing t = Chosen lines xs Nothing × (t ≡ 0)
   IsBest xs (At k) t = (h : Highest lines xs k) × (priorityIn lines (h .job) ≡ t)
 
   -- one job more, x
-  module _ (xs : List Job) (x : Job) where
+  module _ (xs : List Entry) (x : Entry) where
     -- where it is delayed or lower, the best stays the best
     stays : (f : Found) (t : ℕ) → IsBest xs f t → (x .phase ≡ Released → priorityIn lines x < t) → IsBest (xs ++ (x ∷ [])) f t
-    stays Nothing t b low = (all-append (λ (y : Job). y .phase ≡ Delayed) xs (x ∷ []) (b .0) (delayed (x .phase) refl, tt), b .1)
+    stays Nothing t b low = (all-append (λ (y : Entry). y .phase ≡ Delayed) xs (x ∷ []) (b .0) (delayed (x .phase) refl, tt), b .1)
       where
         delayed : (s : Phase) → x .phase ≡ s → x .phase ≡ Delayed
         delayed Delayed e = e
@@ -51,18 +51,18 @@ module _ (lines : List Line) where
             place = h .place;
             is-released = h .is-released;
             in-front = h .in-front;
-            behind = all-append (λ (y : Job). y .phase ≡ Released → priorityIn lines y < priorityIn lines (h .job)) (h .back) (x ∷ []) (h .behind) (λ r. omega (arith, low r, b .1), tt);
+            behind = all-append (λ (y : Entry). y .phase ≡ Released → priorityIn lines y < priorityIn lines (h .job)) (h .back) (x ∷ []) (h .behind) (λ r. omega (arith, low r, b .1), tt);
           },
           b .1,
         )
 
     -- so far no released job is higher than the best
-    none-higher : (f : Found) (t : ℕ) → IsBest xs f t → All (λ (y : Job). y .phase ≡ Released → priorityIn lines y ≤ t) xs
+    none-higher : (f : Found) (t : ℕ) → IsBest xs f t → All (λ (y : Entry). y .phase ≡ Released → priorityIn lines y ≤ t) xs
     none-higher Nothing t b = all-map (λ y d r. absurd (not-both (y .phase) d r)) xs (b .0)
     none-higher (At k) t b =
         let h = b .0 in
-        subst⁻¹ (All (λ (y : Job). y .phase ≡ Released → priorityIn lines y ≤ t)) (h .among)
-        (all-append (λ (y : Job). y .phase ≡ Released → priorityIn lines y ≤ t) (h .front) (h .job ∷ h .back)
+        subst⁻¹ (All (λ (y : Entry). y .phase ≡ Released → priorityIn lines y ≤ t)) (h .among)
+        (all-append (λ (y : Entry). y .phase ≡ Released → priorityIn lines y ≤ t) (h .front) (h .job ∷ h .back)
         (all-map (λ y a r. omega (arith, a r, b .1)) (h .front) (h .in-front))
         (λ r. omega (arith, b .1), all-map (λ y a r. omega (arith, a r, b .1)) (h .back) (h .behind)))
 
@@ -92,14 +92,14 @@ module _ (lines : List Line) where
         go Released e false p = rw (sym (better-left lines (length xs) b x _ e refl p)) (stays (b .found) (b .top) h (λ r. omega told))
 
   -- and so does the scan, from any place on
-  all-more : (ys xs : List Job) (b : Best) → IsBest xs (b .found) (b .top) → IsBest (xs ++ ys) ((bestFrom lines (length xs) b ys) .found) ((bestFrom lines (length xs) b ys) .top)
+  all-more : (ys xs : List Entry) (b : Best) → IsBest xs (b .found) (b .top) → IsBest (xs ++ ys) ((bestFrom lines (length xs) b ys) .found) ((bestFrom lines (length xs) b ys) .top)
   unfolding bestFrom
   all-more [] xs b h = rw (append-nil xs) h
   all-more (y ∷ ys) xs b h =
       let j = all-more ys (xs ++ (y ∷ [])) (betterOf lines (length xs) b y) (one-more xs y b h) in
       rw (append-snoc xs y ys, length-append xs (y ∷ [])) at j
 
-  chosen : (xs : List Job) (f : Found) (t : ℕ) → IsBest xs f t → Chosen lines xs f
+  chosen : (xs : List Entry) (f : Found) (t : ℕ) → IsBest xs f t → Chosen lines xs f
   chosen xs Nothing t b = b .0
   chosen xs (At k) t b = b .0
 

@@ -6,7 +6,7 @@ use mathlib.Core.List.{List}
 use lib.ListN.{drop, getD}
 use Rattle.rules.specs.declared.Phase.the-variants.{Delayed, Released}
 use Rattle.rules.specs.declared.Line.{Line}
-use Rattle.rules.specs.declared.Job.{Job}
+use Rattle.rules.specs.declared.Job.{Job as Entry}
 use Rattle.jobs.specs.declared.JobList.{JobList}
 use Rattle.jobs.specs.Listed.{blankJob, view, Shaped}
 use Rattle.jobs.proofs.Laid.{view-step, view-end}
@@ -15,17 +15,17 @@ use Rattle.kernel.specs.declared.Best.{Best}
 use Rattle.kernel.specs.Dispatch.{priorityIn, takesOver, betterOf, bestFrom}
 
 module _ (lines : List Line) (i : ℕ) (b : Best) where
-  pub better-delayed : (x : Job) → x .phase ≡ Delayed → b ≡ betterOf lines i b x
+  pub better-delayed : (x : Entry) → x .phase ≡ Delayed → b ≡ betterOf lines i b x
   unfolding betterOf
   better-delayed x h = rw h
 
   -- p is the priority of x
-  pub better-taken : (x : Job) (p : ℕ) → x .phase ≡ Released → p ≡ priorityIn lines x → takesOver p (b .top) ≡ true
+  pub better-taken : (x : Entry) (p : ℕ) → x .phase ≡ Released → p ≡ priorityIn lines x → takesOver p (b .top) ≡ true
       → record { found = At i; top = p } ≡ betterOf lines i b x
   unfolding betterOf
   better-taken x p h e k = rw (h, sym e, k)
 
-  pub better-left : (x : Job) (p : ℕ) → x .phase ≡ Released → p ≡ priorityIn lines x → takesOver p (b .top) ≡ false → b ≡ betterOf lines i b x
+  pub better-left : (x : Entry) (p : ℕ) → x .phase ≡ Released → p ≡ priorityIn lines x → takesOver p (b .top) ≡ false → b ≡ betterOf lines i b x
   unfolding betterOf
   better-left x p h e k = rw (h, sym e, k)
 

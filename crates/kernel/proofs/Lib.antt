@@ -3,3 +3,4 @@ pub mod Highest
 pub mod Queue
 pub mod Answers
 pub mod Claims
+mod Outcomes

@@ -6,13 +6,13 @@ use lib.Dec.{leb}
 use Rattle.rules.specs.declared.Phase.{Phase}
 use Rattle.rules.specs.declared.Phase.the-variants.{Delayed, Released}
 use Rattle.rules.specs.declared.Line.{Line}
-use Rattle.rules.specs.declared.Job.{Job}
+use Rattle.rules.specs.declared.Job.{Job as Entry}
 use Rattle.table.specs.Lines.{lineAt}
 use Rattle.kernel.specs.declared.Found.{Found}
 use Rattle.kernel.specs.declared.Found.the-variants.{At, Nothing}
 use Rattle.kernel.specs.declared.Best.{Best}
 
-abbrev pub priorityIn : List Line → Job → ℕ
+abbrev pub priorityIn : List Line → Entry → ℕ
 priorityIn lines x = (lineAt lines (x .task)) .priority
 
 -- `new` where the job is released, `old` where it is delayed
@@ -25,12 +25,12 @@ abbrev pub takesOver : ℕ → ℕ → Bool
 takesOver priority top = leb top priority
 
 -- the best so far, after the job x at place i
-unfoldable pub betterOf : List Line → ℕ → Best → Job → Best
+unfoldable pub betterOf : List Line → ℕ → Best → Entry → Best
 betterOf lines i b x =
     ifReleased (x .phase) (cond (takesOver (priorityIn lines x) (b .top)) (record { found = At i; top = priorityIn lines x }) b) b
 
 -- the best of all, b being the best so far and i the place of the next
-unfoldable pub bestFrom : List Line → ℕ → Best → List Job → Best
+unfoldable pub bestFrom : List Line → ℕ → Best → List Entry → Best
 bestFrom lines i b [] = b
 bestFrom lines i b (x ∷ xs) = bestFrom lines (i + 1) (betterOf lines i b x) xs
 
@@ -38,5 +38,5 @@ abbrev pub noBest : Best
 noBest = record { found = Nothing; top = 0 }
 
 -- the place of the job that runs
-unfoldable pub dispatchOf : List Line → List Job → Found
+unfoldable pub dispatchOf : List Line → List Entry → Found
 dispatchOf lines xs = (bestFrom lines 0 noBest xs) .found

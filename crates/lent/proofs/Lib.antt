@@ -5,3 +5,4 @@ pub mod Slicing
 pub mod LendPart
 pub mod LendWith
 pub mod Calls
+mod Outcomes

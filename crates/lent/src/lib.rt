@@ -6,7 +6,7 @@ ghost use Rattle.rules.specs.declared.Call.the-variants.{Wait, Activate, Termin
 ghost use Rattle.rules.specs.Words.{places};
 ghost use Rattle.rules.specs.Tape.{greatestByte, TableWrote};
 ghost use Rattle.tape.specs.Tables.{givenLines};
-ghost use Rattle.scheduler.specs.State.{Handed, HandedOut, checkedOf, stepOf};
+ghost use Rattle.scheduler.specs.State.{Handed, CheckGives, CallGives};
 ghost use Rattle.board.specs.Lent.{LinesChecked};
 use rules::Call;
 use rules::Line;
@@ -40,7 +40,7 @@ fn check_more(lines: [Line; 33], n: usize) -> Checked
 
 // The check of a table, as `scheduler::check`. Up to 32 lines are lent; of more the count alone decides, so any 33 are.
 pub fn check(given: TaskTable) -> Checked
-    ensures { λ r. ⌜ (r ≡ checkedOf given) × HandedOut r ⌝ }
+    ensures { λ r. ⌜ CheckGives given r ⌝ }
 {
     if given.count <= PLACES {
         let lines = given.lines;
@@ -92,7 +92,7 @@ pub fn write_table(lines: [Line; MOST_LINES], count: usize, buf: &mut [u8]) -> W
 // As `board::tick`, on a state that is lent to it and comes back.
 pub fn tick(s: State, at: Tick) -> Stepped
     requires { ⌜ Handed s ⌝ }
-    ensures { λ r. ⌜ (r ≡ stepOf s (Wait at)) × Handed (r .state) ⌝ }
+    ensures { λ r. ⌜ CallGives s (Wait at) r ⌝ }
 {
     let mut here = s;
     let answer = board::tick(&mut here, at);
@@ -105,7 +105,7 @@ pub fn tick(s: State, at: Tick) -> Stepped
 // As `board::activate`.
 pub fn activate(s: State, at: Tick, task: u8) -> Stepped
     requires { ⌜ Handed s ⌝ }
-    ensures { λ r. ⌜ (r ≡ stepOf s (Activate at task)) × Handed (r .state) ⌝ }
+    ensures { λ r. ⌜ CallGives s (Activate at task) r ⌝ }
 {
     let mut here = s;
     let answer = board::activate(&mut here, at, task);
@@ -118,7 +118,7 @@ pub fn activate(s: State, at: Tick, task: u8) -> Stepped
 // As `board::terminate`.
 pub fn terminate(s: State, at: Tick) -> Stepped
     requires { ⌜ Handed s ⌝ }
-    ensures { λ r. ⌜ (r ≡ stepOf s (Terminate at)) × Handed (r .state) ⌝ }
+    ensures { λ r. ⌜ CallGives s (Terminate at) r ⌝ }
 {
     let mut here = s;
     let answer = board::terminate(&mut here, at);
@@ -131,7 +131,7 @@ pub fn terminate(s: State, at: Tick) -> Stepped
 // As `board::chain`.
 pub fn chain(s: State, at: Tick, task: u8) -> Stepped
     requires { ⌜ Handed s ⌝ }
-    ensures { λ r. ⌜ (r ≡ stepOf s (Chain at task)) × Handed (r .state) ⌝ }
+    ensures { λ r. ⌜ CallGives s (Chain at task) r ⌝ }
 {
     let mut here = s;
     let answer = board::chain(&mut here, at, task);
@@ -144,7 +144,7 @@ pub fn chain(s: State, at: Tick, task: u8) -> Stepped
 // Any of the four.
 pub fn call(s: State, call: Call) -> Stepped
     requires { ⌜ Handed s ⌝ }
-    ensures { λ r. ⌜ (r ≡ stepOf s call) × Handed (r .state) ⌝ }
+    ensures { λ r. ⌜ CallGives s call r ⌝ }
 {
     match call {
         Call::Wait(at) => tick(s, at),

@@ -2,3 +2,4 @@ pub mod Groups
 pub mod Round
 pub mod Turns
 pub mod Writes
+mod Outcomes

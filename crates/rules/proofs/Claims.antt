@@ -3,15 +3,15 @@ use Rattle.rules.specs.Claims.{Claims}
 use Rattle.rules.proofs.Demand3.{demand-3, demand-3-answers}
 use Rattle.rules.proofs.Broken.{demand-3-broken}
 use Rattle.rules.proofs.Edf.{plain-is-edf}
-use Rattle.rules.proofs.Priority.{kernel-is-priority}
+use Rattle.rules.proofs.Priority.{kernel-is-priority, preempted-oldest, chain-is-both}
 use Rattle.rules.proofs.Checked.{check-exact}
 use Rattle.rules.proofs.Refusals.{refusals-exact, plain-refusals-exact}
-use Rattle.rules.proofs.Called.{last-accepted, calls-made}
+use Rattle.rules.proofs.Called.{last-accepted, calls-exact, calls-made}
 use Rattle.rules.proofs.Unchanged.{refused-unchanged}
 use Rattle.rules.proofs.Room.{no-ten}
 use Rattle.rules.proofs.Listing.{list-holds, list-moves}
 use Rattle.rules.proofs.Runs.{runs-released}
-use Rattle.rules.proofs.Started.{started-once}
+use Rattle.rules.proofs.Started.{released-once}
 use Rattle.rules.proofs.Vanished.{nothing-vanishes}
 use Rattle.rules.proofs.First.{apart-priorities}
 use Rattle.rules.proofs.Reported.{late-once, reported-once}
@@ -28,6 +28,8 @@ the-claims =
       demand-3-broken = demand-3-broken;
       plain-is-edf = plain-is-edf;
       kernel-is-priority = kernel-is-priority;
+      preempted-oldest = preempted-oldest;
+      chain-is-both = chain-is-both;
       check-exact = check-exact;
       refusals-exact = refusals-exact;
       plain-refusals-exact = plain-refusals-exact;
@@ -37,8 +39,9 @@ the-claims =
       list-holds = list-holds;
       runs-released = runs-released;
       list-moves = list-moves;
+      calls-exact = calls-exact;
       calls-made = calls-made;
-      started-once = started-once;
+      released-once = released-once;
       nothing-vanishes = nothing-vanishes;
       apart-priorities = apart-priorities;
       late-once = late-once;

@@ -9,7 +9,7 @@ use Rattle.rules.specs.declared.Tick.{Tick}
 use Rattle.rules.specs.declared.Call.{Call}
 use Rattle.rules.specs.declared.Call.the-variants.{Wait, Activate, Terminate, Chain}
 use Rattle.rules.specs.declared.Choice.the-variants.{Idle}
-use Rattle.rules.specs.Words.{unless, count, insertBy}
+use Rattle.rules.specs.Words.{unless, countBy, count, insertBy}
 use Rattle.rules.specs.Table.{Table, Keeps, priorityOf}
 use Rattle.rules.specs.Jobs.{Job, Pending, accepted, bare, before}
 use Rattle.rules.specs.Kernel.{dispatched}
@@ -140,6 +140,8 @@ agrees T keeps b p h =
     record {
       same = same-choice T keeps b p (h .good) (h .related);
       idle = rw (runs-job T keeps b p (h .good) (h .related)) (idle-first (b .jobs));
+      tick = h .related .last;
+      jobs = λ test. ap (countBy test) (h .related .list) ∙ count-sorted T test (p .pending);
       results = results-alike T keeps b p (h .good) (h .related);
     }
 

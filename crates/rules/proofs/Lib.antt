@@ -3,6 +3,7 @@
 pub mod Bools
 pub mod Lists
 pub mod Along
+pub mod Outcome
 -- the one place where each rule is opened: the order, the late rule, the check, the refusals
 pub mod Order
 pub mod Past

@@ -1,12 +1,12 @@
 -- The late rule `isPast`: the laws that the rest of the theory knows of it. A change of the rule is proved here, and nowhere else. Assumes nothing.
-use Prim.Native.Nat.{ℕ, _<_, _≤_}
+use Prim.Native.Nat.{ℕ, _≤_}
 use mathlib.Core.Path.{_≡_, refl, ap, sym, _∙_}
 use mathlib.Core.Bool.{Bool, true, false, not, _&&_, _||_, and-comm}
 use lib.Dec.{ltb, leb}
 use native.Mathlib.Omega.{arith}
 use borrow.Author.Tests.{ltb-true, ltb-false, lt-ltb, le-ltb, le-leb, lt-leb}
 use Rattle.rules.specs.declared.Tick.{Tick}
-use Rattle.rules.specs.Table.{Table, size, Passes, plus, deadlineOf}
+use Rattle.rules.specs.Table.{Table, plus, deadlineOf}
 use Rattle.rules.specs.Late.{isPast}
 
 -- what was past stays past
@@ -19,9 +19,9 @@ stays-past s t due h = go (ltb (due .0) (s .0)) refl
     go false e = refl
 
 -- an accepted job is not past at its own call
-pub not-past-yet : (T : Table) → Passes T → (t : Tick) (n : ℕ) → n < size T → false ≡ isPast t (plus t (deadlineOf T n))
+pub not-past-yet : (T : Table) (t : Tick) (n : ℕ) → false ≡ isPast t (plus t (deadlineOf T n))
 unfolding isPast
-not-past-yet T p t n known = sym (le-ltb ((plus t (deadlineOf T n)) .0) (t .0) (omega arith))
+not-past-yet T t n = sym (le-ltb ((plus t (deadlineOf T n)) .0) (t .0) (omega arith))
 
 -- past at t, and not at s: the test without a mark
 pub falls-late : (s t due : Tick) → (isPast t due && not (isPast s due)) ≡ (leb (s .0) (due .0) && ltb (due .0) (t .0))

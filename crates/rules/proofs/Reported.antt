@@ -11,7 +11,7 @@ use Rattle.rules.specs.declared.Phase.the-variants.{Delayed}
 use Rattle.rules.specs.declared.Call.{Call}
 use Rattle.rules.specs.declared.Call.the-variants.{Wait, Activate, Terminate, Chain}
 use Rattle.rules.specs.Words.{unless, countBy, All}
-use Rattle.rules.specs.Table.{Table, Passes}
+use Rattle.rules.specs.Table.{Table}
 use Rattle.rules.specs.Jobs.{Job, Pending, accepted, bare, newJob, before}
 use Rattle.rules.specs.Calls.{tickOf}
 use Rattle.rules.specs.Late.{isPast, isLate, newlyLate, markedAt}
@@ -74,9 +74,9 @@ module _ (test : Pending → Bool) where
       ap (λ z. cond (z && test (bare j)) 1 0) (ap (λ z. z || isPast t (j .due)) (m .0 .mark) ∙ stays-past s t (j .due) h)
 
   -- the marks that a call leaves, and those that go with what it ends, are those that were there and those that it made
-  next-count : (T : Table) → Passes T → (b : Board) → All (Marked (b .last)) (b .jobs) → (e : Call)
+  next-count : (T : Table) → (b : Board) → All (Marked (b .last)) (b .jobs) → (e : Call)
       → countBy test (reportedBy T b e) + countBy with-mark (b .jobs) ≡ countBy ended-late (endedBy T b e) + countBy with-mark ((next T b e) .jobs)
-  next-count T p b m e = go (result T b e) refl
+  next-count T b m e = go (result T b e) refl
     where
       go : (k : ℕ) → result T b e ≡ k
           → countBy test (unless k [] (map bare (newlyLate (tickOf e) (b .jobs)))) + countBy with-mark (b .jobs)
@@ -96,21 +96,21 @@ module _ (test : Pending → Bool) where
 
 pub late-once : LateOnce
 unfolding isPast
-late-once T p calls test =
+late-once T calls test =
     let b = run T fresh calls in
     omega (
       arith,
-      balance T (λ (b : Board). All (Marked (b .last)) (b .jobs)) (λ b m e. next-marked T p b e m) (reportedBy T) test (endedBy T) (ended-late test) (λ (b : Board). countBy (with-mark test) (b .jobs)) (next-count test T p) fresh tt calls,
-      count-alike (with-mark test) (λ (j : Job). isPast (b .last) (j .due) && test (bare j)) (b .jobs) (all-map (λ j m. ap (λ z. z && test (bare j)) (m .mark)) (b .jobs) (fresh-marked T p calls)),
+      balance T (λ (b : Board). All (Marked (b .last)) (b .jobs)) (λ b m e. next-marked T b e m) (reportedBy T) test (endedBy T) (ended-late test) (λ (b : Board). countBy (with-mark test) (b .jobs)) (next-count test T) fresh tt calls,
+      count-alike (with-mark test) (λ (j : Job). isPast (b .last) (j .due) && test (bare j)) (b .jobs) (all-map (λ j m. ap (λ z. z && test (bare j)) (m .mark)) (b .jobs) (fresh-marked T calls)),
     )
 
 -- a reported job was accepted, since it ended or is pending
 pub reported-once : ReportedOnce
-reported-once T p calls test =
+reported-once T calls test =
     let b = run T fresh calls in
     omega (
       arith,
-      late-once T p calls test,
+      late-once T calls test,
       nothing-vanishes T calls test,
       count-both (λ (x : Ended). test (x .job)) (λ (x : Ended). ltb (x .job .due .0) (x .tick .0)) (endings T calls),
       count-both (λ (j : Job). test (bare j)) (λ (j : Job). ltb (j .due .0) (b .last .0)) (b .jobs),

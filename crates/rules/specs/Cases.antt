@@ -1,13 +1,14 @@
--- Document 01, "The program and one whole run" and "Errors a builder could fall into": the printed run and cases a to l, and number 10 on a table that the check refuses, as one statement. Assumes nothing.
-use Prim.Native.Nat.{ℕ}
+-- Document 01, "The program and one whole run" and "Errors a builder could fall into": the printed run, cases a to l, and other single rows, as one statement. Assumes nothing.
+use Prim.Native.Nat.{ℕ, _+_, _*_, _/_}
 use Prim.Native.String.{String}
 use mathlib.Core.Path.{_≡_}
 use mathlib.Core.Bool.{true, false}
 use mathlib.Core.List.{List, [], _∷_, _++_}
+use mathlib.Core.Option.{some}
 use lib.ListN.{take, replicate}
 use Rattle.rules.specs.declared.Tick.{Tick}
 use Rattle.rules.specs.declared.Line.{Line}
-use Rattle.rules.specs.declared.Named.the-variants.{NoneNamed, BothLines}
+use Rattle.rules.specs.declared.Named.the-variants.{NoneNamed, TheLine, BothLines}
 use Rattle.rules.specs.declared.Phase.{Phase}
 use Rattle.rules.specs.declared.Phase.the-variants.{Delayed, Released}
 use Rattle.rules.specs.declared.Call.{Call}
@@ -24,10 +25,11 @@ use Rattle.rules.specs.declared.Written.{Written}
 use Rattle.rules.specs.declared.Written.the-variants.{Count}
 use Rattle.rules.specs.Number.{bytesOf, numberAt}
 use Rattle.rules.specs.Tape.{linesBytes, tapeOf, recordAt, readTape, whole, written, stored}
-use Rattle.rules.specs.Table.{Table, greatest, verdict, check}
-use Rattle.rules.specs.Jobs.{Job}
-use Rattle.rules.specs.Layer.{fresh, result, choice, answer, inPlaces}
-use Rattle.rules.specs.Plain.{start, plainRun, plainChoice}
+use Rattle.rules.specs.Table.{Table, deadlineOf, priorityOf, greatest, verdict, check}
+use Rattle.rules.specs.Jobs.{Job, Pending, before}
+use Rattle.rules.specs.Kernel.{dispatched, kernel}
+use Rattle.rules.specs.Layer.{moved, fresh, result, choice, answer, inPlaces}
+use Rattle.rules.specs.Plain.{start, plainResult, plainRun, plainChoice}
 use Rattle.rules.specs.Run.{run, answers, freshHead, headRun}
 use Rattle.rules.specs.Print.{ascii, ended, transcript}
 
@@ -55,6 +57,10 @@ tableP = table (line 3 12 2 ∷ line 5 11 2 ∷ line 5 10 2 ∷ [])
 
 abbrev pub tableD : Table
 tableD = table (line 10 9 1 ∷ line 12 8 1 ∷ [])
+
+-- the error of case d: due at the next multiple of D
+abbrev pub multiple : Table → Tick → ℕ → Pending
+multiple T t n = record { task = n; since = t; due = at ((t .0 / (deadlineOf T n) .0 + 1) * (deadlineOf T n) .0) }
 
 abbrev pub tableE : Table
 tableE = table (line 3 1 1 ∷ line 5 2 1 ∷ [])
@@ -96,6 +102,7 @@ lines [] = []
 lines (s ∷ ss) = ended (ascii s) ++ lines ss
 
 pub record Cases : Type 0 where
+  -- the printed run
   pub printed-written : tapeOf tableP printed ≡ printedTape
   pub printed-read : readTape printedTape ≡ whole tableP printed
   pub printed-table : check tableP ≡ verdict 0 NoneNamed
@@ -125,6 +132,8 @@ pub record Cases : Type 0 where
       ∷ "7 0 0 6 - 0"
       ∷ "8 0 - - T -"
       ∷ [])
+  pub printed-counts : take 3 ((headRun tableP freshHead printed) .tallies) ≡ tally 1 2 5 ∷ tally 0 1 4 ∷ tally 0 1 3 ∷ []
+  -- what else the program prints
   pub print-nothing-read : transcript [] ≡ lines ("tape 20 at 0" ∷ [])
   pub print-count-33 : transcript (33 ∷ []) ≡ lines ("table 1 - -" ∷ [])
   pub print-no-record : transcript (0x01 ∷ 0x03 ∷ 0x0C ∷ 0x02 ∷ []) ≡ lines ("tick res run due call late" ∷ [])
@@ -134,12 +143,14 @@ pub record Cases : Type 0 where
   pub print-late :
       transcript (0x01 ∷ 0x03 ∷ 0x0C ∷ 0x02 ∷ 0x01 ∷ 0x00 ∷ 0x00 ∷ 0x01 ∷ 0x00 ∷ 0x00 ∷ 0x00 ∷ 0x80 ∷ 0x08 ∷ [])
       ≡ lines ("tick res run due call late" ∷ "0 0 0 3 A0 -" ∷ "0 0 0 3 - -" ∷ "1024 0 0 3 - 0,0" ∷ [])
+  pub print-refused-ticks :
+      transcript (0x01 ∷ 0x05 ∷ 0x01 ∷ 0x01 ∷ 0x02 ∷ 0x07 ∷ 0x01 ∷ 0x07 ∷ 0x00 ∷ [])
+      ≡ lines ("tick res run due call late" ∷ "7 2 - - - -" ∷ "14 0 0 19 A0 -" ∷ [])
   pub print-one-named : transcript (0x02 ∷ 0x05 ∷ 0x02 ∷ 0x01 ∷ 0x00 ∷ 0x01 ∷ 0x01 ∷ []) ≡ lines ("table 2 1 -" ∷ [])
   pub print-none-named : transcript (0x02 ∷ 0x03 ∷ 0x02 ∷ 0x10 ∷ 0x05 ∷ 0x01 ∷ 0x11 ∷ []) ≡ lines ("table 4 - -" ∷ [])
   pub print-longest : transcript (replicate 65536 33) ≡ lines ("table 1 - -" ∷ [])
   pub print-too-long : transcript (replicate 65537 33) ≡ lines ("tape 26 at 65536" ∷ [])
-  pub e-print : transcript (0x02 ∷ 0x03 ∷ 0x01 ∷ 0x01 ∷ 0x05 ∷ 0x02 ∷ 0x01 ∷ 0x04 ∷ []) ≡ lines ("table 5 0 1" ∷ [])
-  pub printed-counts : take 3 ((headRun tableP freshHead printed) .tallies) ≡ tally 1 2 5 ∷ tally 0 1 4 ∷ tally 0 1 3 ∷ []
+  -- cases a to l
   pub a-stays-delayed :
       (run tableP fresh upToTick3) .jobs ≡ job 2 0 5 Released ∷ job 1 0 5 Delayed ∷ job 0 3 6 Delayed ∷ []
   pub a-runs-on : choice tableP (run tableP fresh upToTick3) ≡ Runs 2 (at 5)
@@ -154,17 +165,26 @@ pub record Cases : Type 0 where
       ≡ says 0 (Runs 0 (at 31)) (ActivateTask 0) [] ∷ says 0 (Runs 0 (at 31)) NoCall [] ∷ []
   pub d-second-waits :
       (run tableD fresh (Activate (at 21) 0 ∷ Activate (at 22) 1 ∷ [])) .jobs ≡ job 0 21 31 Released ∷ job 1 22 34 Delayed ∷ []
+  pub d-multiple-due : (multiple tableD (at 21) 0) .due ≡ at 30
+  pub d-multiple-first :
+      moved (before tableD) (multiple tableD) (some 0) (job 0 21 30 Released ∷ []) (Activate (at 22) 1)
+      ≡ record { jobs = job 1 22 24 Released ∷ job 0 21 30 Released ∷ []; call = ActivateTask 1 }
+  pub d-multiple-not-run : dispatched (priorityOf tableD) (kernel (some 0) (ActivateTask 1) (0 ∷ [])) ≡ some 0
   pub e-refused : check tableE ≡ verdict 5 (BothLines 0 1)
+  pub e-print : transcript (0x02 ∷ 0x03 ∷ 0x01 ∷ 0x01 ∷ 0x05 ∷ 0x02 ∷ 0x01 ∷ 0x04 ∷ []) ≡ lines ("table 5 0 1" ∷ [])
   pub e-kernel : choice tableE (run tableE fresh longerFirst) ≡ Runs 1 (at 5)
   pub e-plain : plainChoice tableE ((plainRun tableE start longerFirst) .pending) ≡ Runs 0 (at 3)
   pub f-refused : check tableF ≡ verdict 5 (BothLines 0 1)
   pub f-kernel : choice tableF (run tableF fresh longerFirst) ≡ Runs 1 (at 5)
   pub f-plain : plainChoice tableF ((plainRun tableF start longerFirst) .pending) ≡ Runs 0 (at 3)
   pub g-accepted : check (table (line 5 2 1 ∷ line 5 2 1 ∷ [])) ≡ verdict 0 NoneNamed
+  pub h-runs : choice tableP (run tableP fresh twoOfTask0) ≡ Runs 0 (at 3)
   pub h-chain : answer tableP (run tableP fresh twoOfTask0) (Chain (at 0) 0) ≡ says 0 (Runs 0 (at 3)) (ChainTask 0) []
   pub h-activate : result tableP (run tableP fresh twoOfTask0) (Activate (at 0) 0) ≡ 4
   pub i-nothing-runs : result tableP fresh (Terminate (at 0)) ≡ 2
+  pub i-accepted : result tableP fresh (Wait (at 5)) ≡ 0
   pub i-goes-back : result tableP (run tableP fresh (Wait (at 5) ∷ [])) (Terminate (at 4)) ≡ 8
+  pub i-plain : plainResult tableP (plainRun tableP start (Wait (at 5) ∷ [])) (Terminate (at 4)) ≡ 8
   pub i-changes-nothing : run tableP fresh (Wait (at 5) ∷ Terminate (at 4) ∷ []) ≡ run tableP fresh (Wait (at 5) ∷ [])
   pub j-on-time : answer tableP (run tableP fresh (Activate (at 3) 0 ∷ [])) (Terminate (at 6)) ≡ says 0 Idle TerminateTask []
   pub j-late : answer tableP (run tableP fresh (Activate (at 3) 0 ∷ [])) (Terminate (at 7)) ≡ says 0 Idle TerminateTask (0 ∷ [])
@@ -172,25 +192,34 @@ pub record Cases : Type 0 where
   pub j-late-counts : take 1 ((headRun tableP freshHead (Activate (at 3) 0 ∷ Terminate (at 7) ∷ [])) .tallies) ≡ tally 1 1 4 ∷ []
   pub k-not-shortest : numberAt (0x80 ∷ 0x00 ∷ []) 0 ≡ Refused 21
   pub k-cut-off : numberAt (0x80 ∷ []) 0 ≡ Refused 20
-  pub k-writes-127 : bytesOf 127 ≡ 0x7F ∷ []
-  pub k-writes-128 : bytesOf 128 ≡ 0x80 ∷ 0x01 ∷ []
-  pub k-writes-300 : bytesOf 300 ≡ 0xAC ∷ 0x02 ∷ []
-  pub k-127 : numberAt (0x7F ∷ []) 0 ≡ Value 127 1
-  pub k-128 : numberAt (0x80 ∷ 0x01 ∷ []) 0 ≡ Value 128 2
-  pub k-300 : numberAt (0xAC ∷ 0x02 ∷ []) 0 ≡ Value 300 2
-  pub k-nine-groups :
-      numberAt (0xFF ∷ 0xFF ∷ 0xFF ∷ 0xFF ∷ 0xFF ∷ 0xFF ∷ 0xFF ∷ 0xFF ∷ 0x3F ∷ []) 0 ≡ Value 4611686018427387903 9
-  pub k-tenth-group :
-      numberAt (0xFF ∷ 0xFF ∷ 0xFF ∷ 0xFF ∷ 0xFF ∷ 0xFF ∷ 0xFF ∷ 0xFF ∷ 0xBF ∷ 0x01 ∷ []) 0 ≡ Refused 23
-  pub k-kind-first : recordAt (0x04 ∷ []) 0 (at 0) ≡ RecordRead.Refused 22
-  pub k-sum-first : recordAt (0x01 ∷ 0x01 ∷ []) 0 greatest ≡ RecordRead.Refused 23
-  pub k-24-first : written true (bytesOf 300) 1 ≡ Written.Refused 24
-  pub k-too-short : written false (bytesOf 300) 1 ≡ Written.Refused 25
-  pub k-just-fits : written false (bytesOf 300) 2 ≡ Count 2
-  pub k-left-as-it-was : stored false (bytesOf 300) (0xEE ∷ []) ≡ 0xEE ∷ []
-  pub k-nothing-behind : stored false (bytesOf 300) (0xEE ∷ 0xEE ∷ 0xEE ∷ []) ≡ 0xAC ∷ 0x02 ∷ 0xEE ∷ []
   pub l-fits : check (table (line 3 2 16 ∷ line 5 1 16 ∷ [])) ≡ verdict 0 NoneNamed
   pub l-too-many : check (table (line 3 2 16 ∷ line 5 1 17 ∷ [])) ≡ verdict 4 NoneNamed
+  -- a number, a record, a write
+  pub number-writes-127 : bytesOf 127 ≡ 0x7F ∷ []
+  pub number-writes-128 : bytesOf 128 ≡ 0x80 ∷ 0x01 ∷ []
+  pub number-writes-300 : bytesOf 300 ≡ 0xAC ∷ 0x02 ∷ []
+  pub number-127 : numberAt (0x7F ∷ []) 0 ≡ Value 127 1
+  pub number-128 : numberAt (0x80 ∷ 0x01 ∷ []) 0 ≡ Value 128 2
+  pub number-300 : numberAt (0xAC ∷ 0x02 ∷ []) 0 ≡ Value 300 2
+  pub number-nine-groups :
+      numberAt (0xFF ∷ 0xFF ∷ 0xFF ∷ 0xFF ∷ 0xFF ∷ 0xFF ∷ 0xFF ∷ 0xFF ∷ 0x3F ∷ []) 0 ≡ Value 4611686018427387903 9
+  pub number-tenth-group :
+      numberAt (0xFF ∷ 0xFF ∷ 0xFF ∷ 0xFF ∷ 0xFF ∷ 0xFF ∷ 0xFF ∷ 0xFF ∷ 0xBF ∷ 0x01 ∷ []) 0 ≡ Refused 23
+  pub record-kind-first : recordAt (0x04 ∷ []) 0 (at 0) ≡ RecordRead.Refused 22
+  pub record-sum-first : recordAt (0x01 ∷ 0x01 ∷ []) 0 greatest ≡ RecordRead.Refused 23
+  pub write-24-first : written true (bytesOf 300) 1 ≡ Written.Refused 24
+  pub write-too-short : written false (bytesOf 300) 1 ≡ Written.Refused 25
+  pub write-just-fits : written false (bytesOf 300) 2 ≡ Count 2
+  pub write-left-as-it-was : stored false (bytesOf 300) (0xEE ∷ []) ≡ 0xEE ∷ []
+  pub write-nothing-behind : stored false (bytesOf 300) (0xEE ∷ 0xEE ∷ 0xEE ∷ []) ≡ 0xAC ∷ 0x02 ∷ 0xEE ∷ []
+  -- rows of the check and of the calls
+  pub one-none : check (table []) ≡ verdict 1 NoneNamed
+  pub one-many : check (table (replicate 33 (line 5 1 1))) ≡ verdict 1 NoneNamed
+  pub two-first : check (table (line 0 1 0 ∷ [])) ≡ verdict 2 (TheLine 0)
+  pub three-first : check (table (line 5 1 33 ∷ line 0 1 1 ∷ [])) ≡ verdict 3 (TheLine 0)
+  pub no-line : result tableP fresh (Activate (at 0) 3) ≡ 3
+  pub in-reach : result tableP fresh (Activate (at 4611686018427387900) 0) ≡ 0
+  pub no-reach : result tableP fresh (Activate (at 4611686018427387901) 0) ≡ 9
   pub ten-refused : check tableOver ≡ verdict 4 NoneNamed
   pub ten-at-31 : result tableOver (run tableOver fresh (take 31 full)) (Activate (at 0) 1) ≡ 0
   pub ten-at-32 : result tableOver (run tableOver fresh full) (Activate (at 0) 1) ≡ 10

@@ -1,5 +1,5 @@
 -- All that is claimed of the rules, in one place; proofs/Claims.antt proves it. Assumes nothing.
-use Rattle.rules.specs.Statement.{Demand3, Demand3-answers, Demand3-broken, PlainIsEdf, KernelIsPriority, CheckExact, RefusalsExact, PlainRefusalsExact, LastAccepted, RefusedUnchanged, NoTen, ListHolds, RunsReleased, ListMoves, CallsMade, StartedOnce, NothingVanishes, ApartPriorities, LateOnce, ReportedOnce, LateNeedsNoMark, PlacesSuffice, CountsAddUp}
+use Rattle.rules.specs.Statement.{Demand3, Demand3-answers, Demand3-broken, PlainIsEdf, KernelIsPriority, PreemptedOldest, ChainIsBoth, CheckExact, RefusalsExact, PlainRefusalsExact, LastAccepted, RefusedUnchanged, NoTen, ListHolds, RunsReleased, ListMoves, CallsExact, CallsMade, ReleasedOnce, NothingVanishes, ApartPriorities, LateOnce, ReportedOnce, LateNeedsNoMark, PlacesSuffice, CountsAddUp}
 use Rattle.rules.specs.Cases.{Cases}
 
 pub record Claims : Type 0 where
@@ -7,9 +7,11 @@ pub record Claims : Type 0 where
   pub demand-3 : Demand3
   pub demand-3-answers : Demand3-answers
   pub demand-3-broken : Demand3-broken
-  -- the plain scheduler picks the earliest deadline, the kernel the highest priority
+  -- the plain scheduler picks the earliest deadline, the kernel the highest priority; a preempted job is the oldest of its level
   pub plain-is-edf : PlainIsEdf
   pub kernel-is-priority : KernelIsPriority
+  pub preempted-oldest : PreemptedOldest
+  pub chain-is-both : ChainIsBoth
   -- each number of the check is given exactly on its condition, with the lines named
   pub check-exact : CheckExact
   -- each number of a call is given exactly on its condition, and a refused call changes nothing
@@ -18,13 +20,14 @@ pub record Claims : Type 0 where
   pub last-accepted : LastAccepted
   pub refused-unchanged : RefusedUnchanged
   pub no-ten : NoTen
-  -- the list is in order, its first job released; what runs, what each call does to the list, and its kernel call
+  -- the list is in order, its first job released; what runs, what each call does to the list, and which kernel call it makes
   pub list-holds : ListHolds
   pub runs-released : RunsReleased
   pub list-moves : ListMoves
+  pub calls-exact : CallsExact
   pub calls-made : CallsMade
   -- each job is released by exactly one kernel call, and no accepted job vanishes
-  pub started-once : StartedOnce
+  pub released-once : ReleasedOnce
   pub nothing-vanishes : NothingVanishes
   pub apart-priorities : ApartPriorities
   -- each late job is reported once, and the counts follow from the accepted calls

@@ -1,4 +1,4 @@
--- What the calls of a sequence did, from a fresh start on: tasks started, jobs accepted, ended and reported. Assumes nothing.
+-- What the calls of a sequence did, from a fresh start on: tasks started, jobs released, accepted, ended and reported. Assumes nothing.
 use Prim.Native.Nat.{ℕ, _+_, _-_, max}
 use mathlib.Core.Bool.{cond}
 use mathlib.Core.List.{List, [], _∷_, _++_, map}
@@ -36,8 +36,17 @@ starts TerminateTask = []
 abbrev pub startedBy : Table → Board → Call → List ℕ
 startedBy T b e = starts ((answer T b e) .call)
 
-abbrev pub started : Table → List Call → List ℕ
-started T calls = along T (startedBy T) fresh calls
+-- the jobs that they released: the one that a call started is the first of the list that it left
+abbrev pub firstIf : List ℕ → List Job → List Pending
+firstIf [] l = []
+firstIf (n ∷ q) [] = []
+firstIf (n ∷ q) (j ∷ l) = bare j ∷ []
+
+abbrev pub releasedBy : Table → Board → Call → List Pending
+releasedBy T b e = firstIf (startedBy T b e) ((next T b e) .jobs)
+
+abbrev pub releases : Table → List Call → List Pending
+releases T calls = along T (releasedBy T) fresh calls
 
 -- the jobs that accepted calls made: due at t + D
 abbrev pub jobOf : Table → Tick → ℕ → Pending

@@ -1,5 +1,6 @@
 -- The rules of document 01 as definitions that compute, a page for each section, and what is claimed of them.
 pub mod Words
+pub mod Outcome
 pub mod Table
 pub mod Jobs
 pub mod Kernel

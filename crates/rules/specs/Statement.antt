@@ -26,18 +26,20 @@ use Rattle.rules.specs.Jobs.{Job, Pending, bare, Before}
 use Rattle.rules.specs.Kernel.{dispatched, dequeued, kernel}
 use Rattle.rules.specs.Calls.{View}
 use Rattle.rules.specs.Late.{newlyLate, fallsLate}
-use Rattle.rules.specs.Layer.{Board, without, tasks, running, runningJob, fresh, next, result, choice, answer, inPlaces}
+use Rattle.rules.specs.Layer.{Board, isReleased, without, tasks, running, runningJob, fresh, next, result, choice, answer, inPlaces}
 use Rattle.rules.specs.Counts.{noTally}
 use Rattle.rules.specs.Plain.{Plain, start, plainRun, plainNext, plainChoice, plainRuns, plainTasks, plainOthers, plainResult}
 use Rattle.rules.specs.Run.{run, answers, Head, freshHead, headNext, headRun}
-use Rattle.rules.specs.History.{startedBy, started, jobOf, acceptances, Ended, endings, endedOf, greatestOf, reportedBy, reports, ticks}
+use Rattle.rules.specs.History.{startedBy, releases, jobOf, acceptances, Ended, endings, endedOf, greatestOf, reportedBy, reports, ticks}
 
 -- ==== demand 3
 
--- the kernel and the plain scheduler side by side: the same job runs, none exactly when nothing is pending, and both give every next call the same result
+-- the kernel and the plain scheduler side by side: the same job runs, none exactly when nothing is pending; both have the same last accepted tick and the same pending jobs (as many pass any test), and give every next call the same result
 pub record Agree (T : Table) (b : Board) (p : Plain) : Type 0 where
   pub same : choice T b ≡ plainChoice T (p .pending)
   pub idle : (choice T b ≡ Idle) ↔ (b .jobs ≡ [])
+  pub tick : b .last ≡ p .last
+  pub jobs : (test : Pending → Bool) → countBy test (map bare (b .jobs)) ≡ countBy test (p .pending)
   pub results : (e : Call) → result T b e ≡ plainResult T p e
 
 -- on a table that passes checks 1 to 4 and keeps the rule: after each call of any sequence from a fresh start, refused calls included
@@ -110,6 +112,27 @@ pub record Highest (level : ℕ → ℕ) (q : List ℕ) : Type 0 where
 -- the kernel runs the highest priority, the first released on equal ones; nothing where nothing is released
 abbrev pub KernelIsPriority : Type 0
 KernelIsPriority = (level : ℕ → ℕ) (q : List ℕ) → ((q ≡ []) × (dispatched level q ≡ none)) ⊎ (Highest level q)
+
+-- a job of task n is in the ready queue q, and none released before it has its priority
+pub record Oldest (level : ℕ → ℕ) (n : ℕ) (q : List ℕ) : Type 0 where
+  pub sooner : List ℕ
+  pub later : List ℕ
+  pub among : q ≡ sooner ++ (n ∷ later)
+  pub oldest : All (λ m. level m ≡ level n → ⊥) sooner
+
+-- what runs is the oldest of its level; it stays so when others are released, and whatever the kernel is asked while another runs
+pub record StaysOldest (level : ℕ → ℕ) (n : ℕ) (q : List ℕ) : Type 0 where
+  pub runs : dispatched level q ≡ some n → Oldest level n q
+  pub released : Oldest level n q → (r : Option ℕ) (m : ℕ) → Oldest level n (kernel r (ActivateTask m) q)
+  pub waits : Oldest level n q → (r : Option ℕ) (k : KernelCall) → (r ≡ some n → ⊥) → Oldest level n (kernel r k q)
+
+-- so a preempted job is the oldest of its level
+abbrev pub PreemptedOldest : Type 0
+PreemptedOldest = (level : ℕ → ℕ) (n : ℕ) (q : List ℕ) → StaysOldest level n q
+
+-- ChainTask ends the running job, then releases
+abbrev pub ChainIsBoth : Type 0
+ChainIsBoth = (r : Option ℕ) (n : ℕ) (q : List ℕ) → kernel r (ChainTask n) q ≡ kernel none (ActivateTask n) (kernel r TerminateTask q)
 
 -- ==== the check
 
@@ -235,7 +258,7 @@ RefusedUnchanged = (T : Table) (h : Head) (e : Call) → (result T (h .board) e 
 abbrev pub NoTen : Type 0
 NoTen = (T : Table) → Passes T → (calls : List Call) (e : Call) → result T (run T fresh calls) e ≡ 10 → ⊥
 
--- ==== the list and its releases, on any table
+-- ==== the list and its releases, on any table but where it is said
 
 -- task n behind q, if its job is released
 abbrev pub pushed : Phase → ℕ → List ℕ → List ℕ
@@ -300,36 +323,52 @@ ListMoves =
     (T : Table) (calls : List Call) (e : Call) → result T (run T fresh calls) e ≡ 0
     → ListAfter T (run T fresh calls) e (map bare ((next T (run T fresh calls) e) .jobs))
 
--- what ends the running job
-abbrev pub Ends : KernelCall → Type 0
-Ends k = (k ≡ TerminateTask) ⊎ ((n : ℕ) × (k ≡ ChainTask n))
+-- `this` where the condition holds, otherwise `that`
+abbrev pub If : Type 0 → Type 0 → Type 0 → Type 0
+If condition this that = (condition × this) ⊎ ((condition → ⊥) × that)
 
--- the kernel calls that an accepted call may make
-abbrev pub CallFits : Call → KernelCall → Type 0
-CallFits (Wait t) k = k ≡ NoCall
-CallFits (Activate t n) k = (k ≡ NoCall) ⊎ (k ≡ ActivateTask n)
-CallFits (Terminate t) k = Ends k
-CallFits (Chain t n) k = Ends k
+-- job j would be the first of the list l: it goes before all of them
+abbrev pub IsFirst : Table → Pending → List Job → Type 0
+IsFirst T j l = All (λ (k : Job). Before T j (bare k)) l
+
+-- the running job has left, these jobs are pending. If the first is delayed, ChainTask; otherwise (released, or none) TerminateTask
+abbrev pub Settles : List Job → KernelCall → Type 0
+Settles [] k = k ≡ TerminateTask
+Settles (j ∷ l) k = If (j .phase ≡ Delayed) (k ≡ ChainTask (j .task)) (k ≡ TerminateTask)
+
+-- the kernel call k of an accepted call, exactly. Activate: if the new job is first, ActivateTask; otherwise none. Chain: its job is inserted delayed, then as for terminate
+abbrev pub CallIs : Table → Board → Call → KernelCall → Type 0
+CallIs T b (Wait t) k = k ≡ NoCall
+CallIs T b (Activate t n) k = If (IsFirst T (jobOf T t n) (b .jobs)) (k ≡ ActivateTask n) (k ≡ NoCall)
+CallIs T b (Terminate t) k = Settles (without (running T b) (b .jobs)) k
+CallIs T b (Chain t n) k =
+    If (IsFirst T (jobOf T t n) (without (running T b) (b .jobs))) (k ≡ ChainTask n) (Settles (without (running T b) (b .jobs)) k)
+
+abbrev pub CallsExact : Type 0
+CallsExact =
+    (T : Table) (calls : List Call) (e : Call) → result T (run T fresh calls) e ≡ 0
+    → CallIs T (run T fresh calls) e ((answer T (run T fresh calls) e) .call)
 
 -- the task of the first job
 abbrev pub firstTask : List Job → Option ℕ
 firstTask [] = none
 firstTask (j ∷ l) = some (j .task)
 
--- the kernel call returned is the one that was made, it fits the call, and it starts the first job of the list or none
+-- the kernel call returned is the one that was made, and it starts the first job of the list or none
 pub record CallMade (T : Table) (b : Board) (e : Call) : Type 0 where
   pub made : (next T b e) .ready ≡ kernel (running T b) ((answer T b e) .call) (b .ready)
-  pub fits : result T b e ≡ 0 → CallFits e ((answer T b e) .call)
   pub starts-first : All (λ n. firstTask ((next T b e) .jobs) ≡ some n) (startedBy T b e)
 
 abbrev pub CallsMade : Type 0
 CallsMade = (T : Table) (b : Board) (e : Call) → CallMade T b e
 
--- a job is released by exactly one kernel call: of each task as many were started as ended and are released now. Nothing starts twice, nothing released vanishes
-abbrev pub StartedOnce : Type 0
-StartedOnce =
-    (T : Table) (calls : List Call) (n : ℕ)
-    → count n (started T calls) ≡ endedOf n (endings T calls) + count n (releasedOf ((run T fresh calls) .jobs))
+-- a job is released by exactly one kernel call: of the jobs that pass any test, as many were released by kernel calls as ended and are released now. Nothing starts twice, nothing released vanishes
+abbrev pub ReleasedOnce : Type 0
+ReleasedOnce =
+    (T : Table) (calls : List Call) (test : Pending → Bool)
+    → countBy test (releases T calls)
+    ≡ countBy (λ (x : Ended). test (x .job)) (endings T calls)
+    + countBy (λ (j : Job). isReleased (j .phase) && test (bare j)) ((run T fresh calls) .jobs)
 
 -- a call may be refused by number, it may not vanish: of the jobs that pass any test, as many were accepted as ended and are pending now
 abbrev pub NothingVanishes : Type 0
@@ -345,12 +384,12 @@ ApartPriorities =
     → Pairs (λ (j k : Job). j .phase ≡ Released → k .phase ≡ Released → priorityOf T (j .task) ≡ priorityOf T (k .task) → ⊥)
     ((run T fresh calls) .jobs)
 
--- ==== late jobs and counts, on a table that passes checks 1 to 4
+-- ==== late jobs and counts
 
 -- every late job is reported once and no other: of the jobs that pass any test, as many were reported as ended past their deadline, and are pending with a deadline that the last accepted call was past
 abbrev pub LateOnce : Type 0
 LateOnce =
-    (T : Table) → Passes T → (calls : List Call) (test : Pending → Bool)
+    (T : Table) (calls : List Call) (test : Pending → Bool)
     → countBy test (reports T calls)
     ≡ countBy (λ (x : Ended). ltb (x .job .due .0) (x .tick .0) && test (x .job)) (endings T calls)
     + countBy (λ (j : Job). ltb (j .due .0) ((run T fresh calls) .last .0) && test (bare j)) ((run T fresh calls) .jobs)
@@ -358,13 +397,13 @@ LateOnce =
 -- so each accepted job is reported at most once
 abbrev pub ReportedOnce : Type 0
 ReportedOnce =
-    (T : Table) → Passes T → (calls : List Call) (test : Pending → Bool)
+    (T : Table) (calls : List Call) (test : Pending → Bool)
     → countBy test (reports T calls) ≤ countBy test (acceptances T calls)
 
 -- at the first such call: newly late are those whose deadline this call is past and the last accepted one was not. So no mark need be kept
 abbrev pub LateNeedsNoMark : Type 0
 LateNeedsNoMark =
-    (T : Table) → Passes T → (calls : List Call) (t : Tick)
+    (T : Table) (calls : List Call) (t : Tick)
     → newlyLate t ((run T fresh calls) .jobs) ≡ only (fallsLate ((run T fresh calls) .last) t) ((run T fresh calls) .jobs)
 
 -- count and task numbers of the jobs l, in 32 places, unused places 0

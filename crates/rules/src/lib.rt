@@ -1,5 +1,5 @@
-ghost use Rattle.rules.specs.Claims.{Claims};
 // The data that document 01 speaks of. What it says of them stands in specs/.
+ghost use Rattle.rules.specs.Claims.{Claims};
 
 // How many lines a table holds, how many jobs a list, how many late tasks an answer and how many tallies a state.
 pub const PLACES: usize = 32;

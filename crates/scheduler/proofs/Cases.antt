@@ -1,6 +1,6 @@
 -- The parts of a call, case by case, for the functions' own proofs. Assumes nothing.
-use Prim.Native.Nat.{ℕ, _≤_, _<_}
-use mathlib.Core.Path.{_≡_, refl, sym, ap, _∙_}
+use Prim.Native.Nat.{ℕ, zero, suc, _<_}
+use mathlib.Core.Path.{_≡_, refl, ap, _∙_}
 use mathlib.Core.Bool.{Bool, true, false}
 use mathlib.Core.List.{List, [], _∷_}
 use native.Mathlib.Omega.{arith}
@@ -8,23 +8,19 @@ use lib.ListN.{length, take}
 use Rattle.rules.specs.declared.Job.{Job as Entry}
 use Rattle.rules.specs.declared.Tick.{Tick}
 use Rattle.rules.specs.declared.Phase.{Phase}
-use Rattle.rules.specs.declared.Phase.the-variants.{Delayed, Released}
 use Rattle.rules.specs.declared.Choice.the-variants.{Idle, Runs}
 use Rattle.rules.specs.declared.KernelCall.the-variants.{TerminateTask}
 use Rattle.rules.specs.declared.Late.{Late}
-use Rattle.rules.specs.Words.{_if_else_, places}
+use Rattle.rules.specs.Words.{_if_else_}
 use Rattle.rules.specs.Counts.{withLate, endedMore, onTask}
 use Rattle.table.specs.declared.TaskTable.{TaskTable}
-use Rattle.jobs.specs.Listed.{view, Shaped, isFirstIn, insertDue, firstIn, releaseFirst}
+use Rattle.jobs.specs.Listed.{view, firstIn}
 use Rattle.jobs.specs.declared.JobList.{JobList}
-use Rattle.jobs.proofs.Laid.{view-length, pack-shaped}
-use Rattle.jobs.proofs.Shifts.{length-insert}
-use Rattle.jobs.proofs.Scans.{length-release}
 use Rattle.monitor.specs.declared.Monitor.{Monitor}
 use Rattle.monitor.specs.Tallies.{counts, tasksOf}
 use Rattle.scheduler.specs.declared.State.{State}
 use Rattle.scheduler.specs.declared.Change.{Change}
-use Rattle.scheduler.specs.Steps.{choiceIn, settleAs, settleCall, enteredAs, enteredIn, settledIn, chainedIn, jobAs, responseIn, lateCounted, talliedIn, acceptedOf}
+use Rattle.scheduler.specs.Steps.{choiceIn, settleAs, settleCall, responseIn, lateCounted, talliedIn, acceptedOf}
 use Rattle.scheduler.proofs.Whole.{lateOf, movedOf, endedOf}
 
 -- ---- the rows
@@ -49,8 +45,16 @@ unfolding choiceIn firstIn
 choice-some [] n = absurd (n refl)
 choice-some (x ∷ xs) n = refl
 
-pub choice-first : (l : JobList) → Shaped l → (l .count ≡ 0 → ⊥) → choiceIn (view l) ≡ Runs (firstIn (view l) .task) (firstIn (view l) .due)
-choice-first l s n = choice-some (view l) (λ e. n (sym (view-length l s) ∙ e))
+some-view : (l : JobList) → 0 < length (l .jobs) → (l .count ≡ 0 → ⊥) → length (view l) ≡ 0 → ⊥
+some-view l h n e = go (l .count) (l .jobs) h n e
+  where
+    go : (k : ℕ) (xs : List Entry) → 0 < length xs → (k ≡ 0 → ⊥) → length (take k xs) ≡ 0 → ⊥
+    go zero xs h n e = n refl
+    go (suc k) [] h n e = omega (arith, h)
+    go (suc k) (x ∷ xs) h n e = omega (arith, e)
+
+pub choice-first : (l : JobList) → 0 < length (l .jobs) → (l .count ≡ 0 → ⊥) → choiceIn (view l) ≡ Runs (firstIn (view l) .task) (firstIn (view l) .due)
+choice-first l s n = choice-some (view l) (some-view l s n)
 
 pub settle-none : (l : JobList) → l .count ≡ 0 → settleCall (view l) ≡ TerminateTask
 unfolding settleCall
@@ -61,8 +65,8 @@ unfolding settleCall firstIn
 settle-some [] n = absurd (n refl)
 settle-some (x ∷ xs) n = refl
 
-pub settle-first : (l : JobList) → Shaped l → (l .count ≡ 0 → ⊥) → (p : Phase) → firstIn (view l) .phase ≡ p → settleCall (view l) ≡ settleAs p (firstIn (view l) .task)
-settle-first l s n p e = settle-some (view l) (λ z. n (sym (view-length l s) ∙ z)) ∙ ap (λ (q : Phase). settleAs q (firstIn (view l) .task)) e
+pub settle-first : (l : JobList) → 0 < length (l .jobs) → (l .count ≡ 0 → ⊥) → (p : Phase) → firstIn (view l) .phase ≡ p → settleCall (view l) ≡ settleAs p (firstIn (view l) .task)
+settle-first l s n p e = settle-some (view l) (some-view l s n) ∙ ap (λ (q : Phase). settleAs q (firstIn (view l) .task)) e
 
 -- late jobs are counted, then the first job
 pub tallied-by : (t : TaskTable) (xs : List Entry) (at : Tick) (late : Late) (c : Monitor) (x : Entry) (k : ℕ) (m : Monitor)
@@ -85,21 +89,3 @@ pub ended-by : (s : State) (t : Tick) (late : Late) (monitor : Monitor) (m : Cha
     → acceptedOf (s .table) t late monitor m ≡ endedOf s t m
 ended-by s t late monitor m e f =
     λ i. acceptedOf (s .table) t (e i) ((f ∙ ap (λ (l : Late). talliedIn (s .table) (view (s .list)) t (lateCounted l (s .monitor))) e) i) m
-
--- ---- lists that the parts make
-
-pub entered-shaped : (n : ℕ) (due : Tick) (xs : List Entry) → length xs < places → Shaped (enteredIn n due xs .list)
-unfolding enteredIn
-entered-shaped n due xs h = go (isFirstIn (jobAs n due Delayed) xs)
-  where
-    go : (f : Bool) → Shaped (enteredAs n due xs f .list)
-    go true = pack-shaped (insertDue (jobAs n due Released) xs) (omega (arith, length-insert (jobAs n due Released) xs))
-    go false = pack-shaped (insertDue (jobAs n due Delayed) xs) (omega (arith, length-insert (jobAs n due Delayed) xs))
-
-pub settled-shaped : (xs : List Entry) → length xs ≤ places → Shaped (settledIn xs .list)
-unfolding settledIn
-settled-shaped xs h = pack-shaped (releaseFirst xs) (omega (arith, length-release xs))
-
-pub chained-shaped : (n : ℕ) (due : Tick) (xs : List Entry) → length xs < places → Shaped (chainedIn n due xs .list)
-unfolding chainedIn
-chained-shaped n due xs h = settled-shaped (insertDue (jobAs n due Delayed) xs) (omega (arith, length-insert (jobAs n due Delayed) xs))

@@ -17,18 +17,20 @@ use Rattle.rules.specs.Layer.{Board, fresh, next, answer, result, marked, done,
 use Rattle.rules.specs.Counts.{withLate, withEnded, ending}
 use Rattle.rules.specs.Plain.{Plain, start, plainNext}
 use Rattle.rules.specs.Run.{answers, Head, freshHead, headNext, headRun, Reached}
-use Rattle.rules.proofs.Checked.{keeps-found, check-exact}
+use Rattle.rules.proofs.Outcome.{only}
+use Rattle.rules.proofs.Checked.{keeps-found, found-keeps, check-exact}
 use Rattle.rules.proofs.Demand3.{Both, fresh-both, next-both, results-alike, same-choice}
 use Rattle.rules.proofs.Reached.{reached-fresh, reached-next}
 use Rattle.table.specs.declared.TaskTable.{TaskTable}
+use Rattle.jobs.specs.Listed.{pack}
 use Rattle.table.specs.Lines.{packed, linesIn, given}
 use Rattle.table.proofs.Packed.{kept-lines, count-packed, packed-length}
 use Rattle.table.proofs.Laws.{given-size}
 use Rattle.scheduler.specs.declared.State.{State}
 use Rattle.scheduler.specs.declared.Stepped.{Stepped}
-use Rattle.scheduler.specs.State.{stateOf, Handed, checkedFor, checkedOf, told, stepOf}
+use Rattle.scheduler.specs.State.{stateOf, tableOf, Handed, checkedFor, checkedOf, told, stepOf}
 use Rattle.scheduler.specs.declared.Checked.{Checked}
-use Rattle.scheduler.specs.Claims.{ReadsBack, CopyOf, AnswersEvery, RefusedUnchanged, checked, stateAfter, answered, plainResults, plainChoices, RunsAsRuled, Claims}
+use Rattle.scheduler.specs.Claims.{ReadsBack, CopyOf, AnswersEvery, Fresh, GivesFresh, HandedExactly, RefusedUnchanged, OneChecked, OneCalled, checked, stateAfter, answered, plainResults, plainChoices, RunsAsRuled, Claims}
 use Rattle.scheduler.proofs.Back.{table-back, head-back, step-is}
 use Rattle.scheduler.proofs.Handed.{handed-by}
 
@@ -57,19 +59,45 @@ module _ (T : Table) (g : TaskTable) (c : CopyOf T g) where
       let b : places < size T = omega arith in
       told-over (given g) (omega (arith, given-size g (c .placed), c .counted)) ∙ sym (told-over T b)
 
+fresh-for : (T : Table) → check T ≡ fine → Handed ((checkedFor T) .state)
+fresh-for T a =
+    subst⁻¹ (λ (v : Verdict). Handed (stateOf (unless (v .number) (record { lines = [] }) T) freshHead)) a
+    (record { table = T; head = freshHead; reached = reached-fresh T a; is = refl })
+
 answers-every : AnswersEvery
 unfolding checkedOf
 answers-every T g c =
     let e = copy-told T g c (decLe (size T) places) in
     record {
       gives = e;
-      hands-out = λ a. subst⁻¹ Handed (ap (λ (z : Checked). z .state) e) (fresh-for a);
+      hands-out = λ a. subst⁻¹ Handed (ap (λ (z : Checked). z .state) e) (fresh-for T a);
     }
+
+fresh-of : (T : Table) → Fresh (T .lines) (stateOf T freshHead)
+unfolding stateOf pack
+fresh-of T = record { lines = kept-lines (T .lines); jobs = refl; tick = refl; counts = refl }
+
+gives-fresh : GivesFresh
+gives-fresh T = record { accepted = go ((check T) .number) .0; refused = go ((check T) .number) .1 }
   where
-    fresh-for : check T ≡ fine → Handed ((checkedFor T) .state)
-    fresh-for a =
-        subst⁻¹ (λ (v : Verdict). Handed (stateOf (unless (v .number) (record { lines = [] }) T) freshHead)) a
-        (record { table = T; head = freshHead; reached = reached-fresh T a; is = refl })
+    none : Table
+    none = record { lines = [] }
+
+    go : (n : ℕ) → let s = stateOf (unless n none T) freshHead in (n ≡ 0 → Fresh (T .lines) s) × ((n ≡ 0 → ⊥) → Fresh [] s)
+    go zero = (λ z. fresh-of T, λ f. absurd (f refl))
+    go (suc n) = (λ z. absurd (omega (arith, z)), λ f. fresh-of none)
+
+-- after a refusal the state is one of no lines, and no table of no lines is accepted
+handed-exactly : HandedExactly
+handed-exactly T = (go ((check T) .number), λ z. fresh-for T (found-keeps T (keeps-found T z)))
+  where
+    go : (n : ℕ) → Handed (stateOf (unless n (record { lines = [] }) T) freshHead) → n ≡ 0
+    go zero d = refl
+    go (suc n) d =
+        let none : Table = record { lines = [] } in
+        let e : none ≡ d .table = sym (table-back none freshHead) ∙ ap tableOf (d .is) ∙ table-back (d .table) (d .head) in
+        let z : (check none) .number ≡ 0 = ap (λ (U : Table). (check U) .number) e ∙ ap (λ (v : Verdict). v .number) (d .reached .accepted) in
+        omega (arith, keeps-found none z .passes .counted .0)
 
 -- a table that is laid out is a copy of itself
 copy-packed : (T : Table) → size T ≤ places → CopyOf T (packed (T .lines))
@@ -154,5 +182,23 @@ runs-as-ruled T a calls =
       running-plain = ap (map (λ (z : Answer). z .running)) told-so ∙ running-from T keeps fresh start (fresh-both T) calls;
     }
 
+-- ---- one outcome
+
+one-checked : OneChecked
+one-checked g r r′ p q = only (p .0) (q .0)
+
+one-called : OneCalled
+one-called s e r r′ p q = only (p .0) (q .0)
+
 pub the-claims : Claims
-the-claims = record { reads-back = reads-back; answers-every = answers-every; refused-unchanged = refused-unchanged; runs-as-ruled = runs-as-ruled }
+the-claims =
+    record {
+      reads-back = reads-back;
+      answers-every = answers-every;
+      gives-fresh = gives-fresh;
+      handed-exactly = handed-exactly;
+      refused-unchanged = refused-unchanged;
+      one-checked = one-checked;
+      one-called = one-called;
+      runs-as-ruled = runs-as-ruled;
+    }

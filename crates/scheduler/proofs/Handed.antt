@@ -21,7 +21,7 @@ use Rattle.rules.proofs.Allowed.{allowed}
 use Rattle.rules.proofs.Reached.{reached-next, reached-good, reached-room, reached-task, reached-keeps}
 use Rattle.jobs.specs.Listed.{view, pack, Shaped, Sorted, removeAt}
 use Rattle.jobs.specs.declared.JobList.{JobList}
-use Rattle.jobs.proofs.Laid.{view-pack, count-pack, pack-shaped}
+use Rattle.jobs.proofs.Laid.{view-pack, pack-shaped}
 use Rattle.jobs.proofs.Shifts.{remove-shaped}
 use Rattle.scheduler.specs.declared.State.{State}
 use Rattle.scheduler.specs.declared.Stepped.{Stepped}
@@ -137,6 +137,3 @@ chain-ends s d t n = handed-by (λ (z : State). refusalIn z (Chain t n) ≡ 0 �
 -- the others, once the first job has left
 pub others-shaped : (s : State) → Handed s → (t : Tick) → Ends s t → (l : JobList) → l ≡ pack (removeAt 0 (view (s .list))) → Shaped l × (l .count < places)
 others-shaped s d t a l e = subst⁻¹ (λ (z : JobList). Shaped z × (z .count < places)) e (remove-shaped (s .list) 0 (handed-shaped s d) (a .some-one))
-
-pub others-few : (s : State) → Handed s → (t : Tick) → Ends s t → length (removeAt 0 (view (s .list))) < places
-others-few s d t a = rw (count-pack (removeAt 0 (view (s .list)))) at (remove-shaped (s .list) 0 (handed-shaped s d) (a .some-one) .1)

@@ -9,3 +9,4 @@ pub mod Handed
 pub mod Cases
 pub mod Checking
 pub mod Claims
+mod Outcomes

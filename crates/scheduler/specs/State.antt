@@ -94,3 +94,11 @@ told T h e = record { state = stateOf T (headNext T h e); answer = answer T (h .
 
 unfoldable pub stepOf : State → Call → Stepped
 stepOf s e = told (tableOf s) (headOf s) e
+
+-- ---- what the check of a given table, and call e on state s, promise of their result
+
+abbrev pub CheckGives : TaskTable → Checked → Type 0
+CheckGives g r = (r ≡ checkedOf g) × HandedOut r
+
+abbrev pub CallGives : State → Call → Stepped → Type 0
+CallGives s e r = (r ≡ stepOf s e) × Handed (r .state)

@@ -6,7 +6,7 @@ ghost use Rattle.jobs.specs.Listed.{view, Shaped};
 ghost use Rattle.rules.specs.Words.{places};
 ghost use Rattle.rules.specs.Table.{greatest};
 ghost use Rattle.scheduler.specs.Steps.{freshOf, choiceIn, askedOf, activateRefusal, terminateRefusal, chainRefusal, entryPhase, entryCall, enteredIn, settleCall, settledIn, chainedIn, Short, responseIn, lateCounted, talliedIn, refusedOf, acceptedOf};
-ghost use Rattle.scheduler.specs.State.{Handed, HandedOut, stepOf, checkedOf};
+ghost use Rattle.scheduler.specs.State.{Handed, CheckGives, CallGives};
 ghost use Rattle.scheduler.specs.Claims.{Claims};
 use jobs::JobList;
 use monitor::Monitor;
@@ -60,7 +60,7 @@ struct Change {
 
 // The check of a task table: a fresh state is handed out if it gives 0.
 pub fn check(given: TaskTable) -> Checked
-    ensures { λ r. ⌜ (r ≡ checkedOf given) × HandedOut r ⌝ }
+    ensures { λ r. ⌜ CheckGives given r ⌝ }
 {
     let verdict = table::check(given);
     if verdict.number != 0 {
@@ -92,7 +92,7 @@ fn fresh(table: TaskTable) -> State
 // Tick: time moves; no kernel call.
 pub fn tick(s: State, at: Tick) -> Stepped
     requires { ⌜ Handed s ⌝ }
-    ensures { λ r. ⌜ (r ≡ stepOf s (Wait at)) × Handed (r .state) ⌝ }
+    ensures { λ r. ⌜ CallGives s (Wait at) r ⌝ }
 {
     if ticks::bad_tick(s.last, at) {
         return refused(s, 8);
@@ -110,7 +110,7 @@ pub fn tick(s: State, at: Tick) -> Stepped
 // Activate: a new job of the task goes into the list, and is released if it is first.
 pub fn activate(s: State, at: Tick, task: u8) -> Stepped
     requires { ⌜ Handed s ⌝ }
-    ensures { λ r. ⌜ (r ≡ stepOf s (Activate at task)) × Handed (r .state) ⌝ }
+    ensures { λ r. ⌜ CallGives s (Activate at task) r ⌝ }
 {
     let new = asked(s.table, at, task);
     let refusal = activate_refusal(s.last, s.table.count, s.list, new);
@@ -126,7 +126,7 @@ pub fn activate(s: State, at: Tick, task: u8) -> Stepped
 // Terminate: the running job leaves the list.
 pub fn terminate(s: State, at: Tick) -> Stepped
     requires { ⌜ Handed s ⌝ }
-    ensures { λ r. ⌜ (r ≡ stepOf s (Terminate at)) × Handed (r .state) ⌝ }
+    ensures { λ r. ⌜ CallGives s (Terminate at) r ⌝ }
 {
     let refusal = terminate_refusal(s.last, s.list.count, at);
     if refusal != 0 {
@@ -142,7 +142,7 @@ pub fn terminate(s: State, at: Tick) -> Stepped
 // Chain: the running job leaves, and the named task's job is inserted at the same tick.
 pub fn chain(s: State, at: Tick, task: u8) -> Stepped
     requires { ⌜ Handed s ⌝ }
-    ensures { λ r. ⌜ (r ≡ stepOf s (Chain at task)) × Handed (r .state) ⌝ }
+    ensures { λ r. ⌜ CallGives s (Chain at task) r ⌝ }
 {
     let new = asked(s.table, at, task);
     let refusal = chain_refusal(s.last, s.table.count, s.list, new);
@@ -159,7 +159,7 @@ pub fn chain(s: State, at: Tick, task: u8) -> Stepped
 // Any of the four.
 pub fn call(s: State, call: Call) -> Stepped
     requires { ⌜ Handed s ⌝ }
-    ensures { λ r. ⌜ (r ≡ stepOf s call) × Handed (r .state) ⌝ }
+    ensures { λ r. ⌜ CallGives s call r ⌝ }
 {
     match call {
         Call::Wait(at) => tick(s, at),
@@ -252,7 +252,6 @@ fn asked(table: TaskTable, at: Tick, task: u8) -> Activation
 
 // What runs: the first job. It is the one that the kernel runs (rules, proofs/First).
 fn running(list: JobList) -> Choice
-    requires { ⌜ Shaped list ⌝ }
     ensures { λ r. ⌜ r ≡ choiceIn (view list) ⌝ }
 {
     if list.count == 0 {
@@ -304,7 +303,6 @@ fn entered(list: JobList, task: u8, due: Tick) -> Change
 
 // The kernel call once the running job has left: ChainTask if the new first job is delayed; otherwise TerminateTask.
 fn settle_call(list: JobList) -> KernelCall
-    requires { ⌜ Shaped list ⌝ }
     ensures { λ r. ⌜ r ≡ settleCall (view list) ⌝ }
 {
     if list.count == 0 {
@@ -356,7 +354,7 @@ fn response_of(table: TaskTable, job: Job, at: Tick) -> u64
 
 // Late jobs are counted, then the first job, which ended.
 fn tallied(table: TaskTable, list: JobList, monitor: Monitor, at: Tick, late: Late) -> Monitor
-    requires { ⌜ Shaped list × Short table × (at .0 ≤ greatest .0) ⌝ }
+    requires { ⌜ Short table × (at .0 ≤ greatest .0) ⌝ }
     ensures { λ r. ⌜ r ≡ talliedIn table (view list) at (lateCounted late monitor) ⌝ }
 {
     let job = jobs::first(list);
@@ -367,7 +365,6 @@ fn tallied(table: TaskTable, list: JobList, monitor: Monitor, at: Tick, late: La
 
 // A refused call: nothing changes.
 fn refused(s: State, number: u8) -> Stepped
-    requires { ⌜ Shaped (s .list) ⌝ }
     ensures { λ r. ⌜ r ≡ refusedOf s number ⌝ }
 {
     let answer = Answer {
@@ -381,7 +378,6 @@ fn refused(s: State, number: u8) -> Stepped
 
 // What an accepted call leaves, and its answer.
 fn accepted(table: TaskTable, at: Tick, late: Late, monitor: Monitor, change: Change) -> Stepped
-    requires { ⌜ Shaped (change .list) ⌝ }
     ensures { λ r. ⌜ r ≡ acceptedOf table at late monitor change ⌝ }
 {
     let list = change.list;

@@ -1,3 +1,4 @@
 pub mod Copied
 pub mod Laws
 pub mod Packed
+mod Outcomes

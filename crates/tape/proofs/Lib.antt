@@ -6,4 +6,6 @@ pub mod Sizes
 pub mod Kept
 pub mod Copying
 pub mod Handing
+pub mod Writing
 pub mod Claims
+mod Outcomes

@@ -14,7 +14,7 @@ pub const GREATEST: u64 = 4611686018427387903;
 // The tick after the greatest, which no call may have.
 const BEYOND: u64 = GREATEST + 1;
 
-// A tick and a relative deadline, added: the one place where the two meet. Past the greatest tick it gives the tick after that.
+// A tick and a length of time (a relative deadline, a record's ticks), added: the one place where that is done. Past the greatest tick it gives the tick after that.
 pub fn plus(at: Tick, deadline: Span) -> Tick
     ensures { λ r. ⌜ r ≡ sum at deadline ⌝ }
 {
@@ -27,14 +27,14 @@ pub fn plus(at: Tick, deadline: Span) -> Tick
     Tick(at.0 + deadline.0)
 }
 
-// 9: above the greatest tick.
+// Above the greatest tick: 9 of a call, 23 of a record's ticks.
 pub fn is_beyond(due: Tick) -> bool
     ensures { λ r. ⌜ r ≡ isBeyond due ⌝ }
 {
     GREATEST < due.0
 }
 
-// 8: below the last accepted call's tick, or above the greatest tick.
+// Below the last accepted call's (or the preceding record's) tick, or above the greatest tick: 8 of a call, 24 of a record.
 pub fn bad_tick(last: Tick, at: Tick) -> bool
     ensures { λ r. ⌜ r ≡ badTick last at ⌝ }
 {
@@ -58,11 +58,12 @@ pub fn response(at: Tick, due: Tick, deadline: Span) -> u64
     ensures { λ r. ⌜ r ≡ responseBy at due deadline ⌝ }
 {
     if due.0 <= at.0 {
-        return at.0 - due.0 + deadline.0;
+        let after = Span(at.0 - due.0);
+        return after.0 + deadline.0;
     }
-    let early = due.0 - at.0;
-    if deadline.0 < early {
+    let before = Span(due.0 - at.0);
+    if deadline.0 < before.0 {
         return 0;
     }
-    deadline.0 - early
+    deadline.0 - before.0
 }

@@ -1,5 +1,9 @@
+pub mod Exact
 pub mod Opens
 pub mod Lines
 pub mod Fits
-pub mod Written
+pub mod Prints
+pub mod Decimals
+pub mod Ones
 pub mod Claims
+mod Outcomes

@@ -35,9 +35,9 @@ use Rattle.transcript.specs.Claims.{LineByLine}
 use Rattle.transcript.proofs.Opens.{rest-is}
 use Rattle.transcript.proofs.Fits.{lines-fit}
 
-module _ (T : Table) (h : Head) (r : Reached T h) (tape : List ℕ) (at : ℕ) (prev : Tick) where
+module _ (T : Table) (h : Head) (r : Reached T h) (tape : List ℕ) (at : ℕ) (preceding : Tick) where
   abbrev here : Run
-  here = record { state = stateOf T h; at = at; preceding = prev }
+  here = record { state = stateOf T h; at = at; preceding = preceding }
 
   -- what is read here, and what is printed from here on
   abbrev Prints : RecordRead → Type 0
@@ -60,7 +60,7 @@ module _ (T : Table) (h : Head) (r : Reached T h) (tape : List ℕ) (at : ℕ) (
   prints (Refused k) = sym (append-nil (ended (tapeText k at)))
 
   by-line : restText tape here ≡ lineText here (readIn tape here) ++ cond (goesOn (readIn tape here)) (restText tape (runAfter here (readIn tape here))) []
-  by-line = rest-is T h r tape at prev ∙ ap (recordsText T (h .board)) (records-step tape at prev) ∙ prints (readIn tape here)
+  by-line = rest-is T h r tape at preceding ∙ ap (recordsText T (h .board)) (records-step tape at preceding) ∙ prints (readIn tape here)
 
 pub line-by-line : LineByLine
 line-by-line tape x d =

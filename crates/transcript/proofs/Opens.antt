@@ -145,9 +145,9 @@ module _ (tape : List ℕ) (short : length tape ≤ longest) where
 -- ---- the rest of the print
 
 -- what is read back from a state prints what the table and the head print
-pub rest-is : (T : Table) (h : Head) → Reached T h → (tape : List ℕ) (at : ℕ) (prev : Tick)
-    → restText tape (record { state = stateOf T h; at = at; preceding = prev }) ≡ recordsText T (h .board) (recordsAt tape at prev)
-rest-is T h r tape at prev = λ i. recordsText (table-back T h i) ((head-back T h r i) .board) (recordsAt tape at prev)
+pub rest-is : (T : Table) (h : Head) → Reached T h → (tape : List ℕ) (at : ℕ) (preceding : Tick)
+    → restText tape (record { state = stateOf T h; at = at; preceding = preceding }) ≡ recordsText T (h .board) (recordsAt tape at preceding)
+rest-is T h r tape at preceding = λ i. recordsText (table-back T h i) ((head-back T h r i) .board) (recordsAt tape at preceding)
 
 pub opens-as-printed : OpensAsPrinted
 unfolding transcript openedOf

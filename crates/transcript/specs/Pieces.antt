@@ -33,6 +33,10 @@ openedOf tape = openedAs (opening tape)
 abbrev pub HandedOpen : Opened → Type 0
 HandedOpen o = o .answer ≡ Accepted → Handed (o .run .state)
 
+-- a tape opens so
+abbrev pub Opens : List ℕ → Opened → Type 0
+Opens tape r = (r ≡ openedOf tape) × HandedOpen r
+
 -- ---- record by record
 
 -- a call is made, and the run goes on behind its record

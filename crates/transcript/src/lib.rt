@@ -5,7 +5,7 @@ ghost use lib.ListN.{length};
 ghost use Rattle.rules.specs.Print.{unopened, countAbove, openingText};
 ghost use Rattle.scheduler.specs.State.{Handed};
 ghost use Rattle.print.specs.Buffers.{Put};
-ghost use Rattle.transcript.specs.Pieces.{openedAs, openedOf, HandedOpen, calledOf, stopLine, bufferRoom, lineMost, NextLine, Piece};
+ghost use Rattle.transcript.specs.Pieces.{openedAs, Opens, calledOf, stopLine, bufferRoom, lineMost, NextLine, Piece};
 ghost use Rattle.transcript.specs.Claims.{Claims};
 use libc::STDOUT_FILENO;
 use print::ROOM;
@@ -81,7 +81,7 @@ fn closed(answer: Opening) -> Opened
 
 // 26 before everything; a count above 32 as soon as it is read; then the table, and its check.
 pub fn open(tape: &[u8]) -> Opened
-    ensures { λ r. ⌜ (r ≡ openedOf (now (tape .entry))) × HandedOpen r ⌝ }
+    ensures { λ r. ⌜ Opens (now (tape .entry)) r ⌝ }
 {
     if MOST_BYTES < tape.len() {
         return closed(Opening::BadTape {

@@ -12,7 +12,7 @@ use Rattle.jobs.proofs.pending_from.Statement.{statement}
 use Rattle.jobs.proofs.pending_from.Tie as tie
 
 abbrev Inv-loop : tie.InvT-loop
-Inv-loop start task list n found₀ i₀ found i = (i ≤ n) × (found ≤ i) × (found + pendingOf task (drop i (view list)) ≡ pendingOf task (drop start (view list)))
+Inv-loop start task list n found₀ i₀ found i = (found ≤ i) × (found + pendingOf task (drop i (view list)) ≡ pendingOf task (drop start (view list)))
 
 abbrev μ-loop : tie.MeasureT-loop
 μ-loop start task list n found₀ i₀ found i = n - i
@@ -40,17 +40,17 @@ loop-again c =
     let l = c .before .before .before .before .loop in
     let b = c .before .before .before .before .before in
     let a = b .args in
-    let e = ap (pendingOf (a .task)) (view-step (a .t1) (l .i) (b .pre .0) (omega arith)) in
+    let e = ap (pendingOf (a .task)) (view-step (a .t1) (l .i) (b .pre) (omega arith)) in
     ⊎-elim
-    (λ w. (omega arith, omega arith, omega (arith, e, pending-here (a .task) (getD (a .t1 .jobs) (l .i) blankJob) (drop (l .i + 1) (view (a .t1))) (w .0 .taken))))
-    (λ w. (omega arith, omega arith, omega (arith, e, pending-next (a .task) (getD (a .t1 .jobs) (l .i) blankJob) (drop (l .i + 1) (view (a .t1))) (w .0 .left))))
+    (λ w. (omega arith, omega (arith, e, pending-here (a .task) (getD (a .t1 .jobs) (l .i) blankJob) (drop (l .i + 1) (view (a .t1))) (w .0 .taken))))
+    (λ w. (omega arith, omega (arith, e, pending-next (a .task) (getD (a .t1 .jobs) (l .i) blankJob) (drop (l .i + 1) (view (a .t1))) (w .0 .left))))
     (c .if1 .came)
 
 returns : tie.Need-returns Inv-loop μ-loop
 returns c =
     let l = c .before .loop in
     let b = c .before .before in
-    let e = ap (pendingOf (b .args .task)) (view-end (b .args .t1) (l .i) (b .pre .0) (omega arith)) ∙ pending-none (b .args .task) in
+    let e = ap (pendingOf (b .args .task)) (view-end (b .args .t1) (l .i) (b .pre) (omega arith)) ∙ pending-none (b .args .task) in
     omega (arith, e)
 
 pub pending-from-spec : {M : Type 1} → statement M

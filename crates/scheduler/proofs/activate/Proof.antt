@@ -1,16 +1,13 @@
 -- `scheduler::activate` meets its contract. Assumes nothing.
-use mathlib.Core.Path.{_≡_, sym, ap, _∙_, subst⁻¹}
-use native.Mathlib.Omega.{arith}
+use mathlib.Core.Path.{_≡_, sym, ap, _∙_}
 use Rattle.rules.specs.declared.Call.the-variants.{Activate}
-use Rattle.jobs.specs.Listed.{view, Shaped}
-use Rattle.jobs.proofs.Laid.{view-length}
+use Rattle.jobs.specs.Listed.{view}
 use Rattle.scheduler.specs.declared.Activation.{Activation}
-use Rattle.scheduler.specs.declared.Change.{Change}
 use Rattle.scheduler.specs.Steps.{activateRefusal, enteredIn}
 use Rattle.scheduler.proofs.Rows.{refusalIn}
 use Rattle.scheduler.proofs.Whole.{changeIn, movedOf}
 use Rattle.scheduler.proofs.Handed.{handed-shaped, handed-sorted, handed-refused, handed-accepted, handed-room, hand-on}
-use Rattle.scheduler.proofs.Cases.{entered-shaped, moved-by}
+use Rattle.scheduler.proofs.Cases.{moved-by}
 use borrow.Author.Needs.{needs}
 use Rattle.scheduler.proofs.activate.Statement.{statement}
 use Rattle.scheduler.proofs.activate.Tie as tie
@@ -38,7 +35,7 @@ activate-refusal-requires : tie.Need-activate-refusal-requires
 activate-refusal-requires c κs = handed-shaped (c .before .args .s) (c .before .pre)
 
 refused-requires : tie.Need-refused-requires
-refused-requires c κs = handed-shaped (c .before .before .before .args .s) (c .before .before .before .pre)
+refused-requires c κs = search needs
 
 returns : tie.Need-returns
 returns c =
@@ -61,12 +58,7 @@ entered-requires c κs =
     (handed-shaped (b .args .s) (b .pre), handed-room (b .args .s) (b .pre) (b .args .at) (b .args .task) (none (c .before .before)))
 
 accepted-requires : tie.Need-accepted-requires
-accepted-requires c κs =
-    let b = c .before .before .before .before .before .before in
-    let a = b .args in
-    let h = handed-shaped (a .s) (b .pre) in
-    let r = handed-room (a .s) (b .pre) (a .at) (a .task) (none (c .before .before .before)) in
-    subst⁻¹ (λ (z : Change). Shaped (z .list)) (change c) (entered-shaped (a .task) _ (view (a .s .list)) (omega (arith, view-length (a .s .list) h, r)))
+accepted-requires c κs = search needs
 
 returns-2 : tie.Need-returns-2
 returns-2 c =

@@ -1,16 +1,15 @@
 -- `scheduler::chain` meets its contract. Assumes nothing.
-use mathlib.Core.Path.{_≡_, sym, ap, _∙_, subst⁻¹}
+use mathlib.Core.Path.{_≡_, sym, ap, _∙_}
 use Rattle.rules.specs.declared.Call.the-variants.{Chain}
 use Rattle.jobs.specs.declared.JobList.{JobList}
-use Rattle.jobs.specs.Listed.{view, Shaped, removeAt}
+use Rattle.jobs.specs.Listed.{view, removeAt}
 use Rattle.jobs.proofs.Laid.{view-pack}
 use Rattle.scheduler.specs.declared.Activation.{Activation}
-use Rattle.scheduler.specs.declared.Change.{Change}
 use Rattle.scheduler.specs.Steps.{chainRefusal, chainedIn}
 use Rattle.scheduler.proofs.Rows.{refusalIn}
 use Rattle.scheduler.proofs.Whole.{changeIn, endedOf}
-use Rattle.scheduler.proofs.Handed.{handed-shaped, handed-sorted, handed-short, handed-refused, handed-accepted, hand-on, Ends, chain-ends, others-shaped, others-few}
-use Rattle.scheduler.proofs.Cases.{chained-shaped, ended-by}
+use Rattle.scheduler.proofs.Handed.{handed-shaped, handed-sorted, handed-short, handed-refused, handed-accepted, hand-on, Ends, chain-ends, others-shaped}
+use Rattle.scheduler.proofs.Cases.{ended-by}
 use borrow.Author.Needs.{needs}
 use Rattle.scheduler.proofs.chain.Statement.{statement}
 use Rattle.scheduler.proofs.chain.Tie as tie
@@ -43,7 +42,7 @@ chain-refusal-requires : tie.Need-chain-refusal-requires
 chain-refusal-requires c κs = handed-shaped (c .before .args .s) (c .before .pre)
 
 refused-requires : tie.Need-refused-requires
-refused-requires c κs = handed-shaped (c .before .before .before .args .s) (c .before .before .before .pre)
+refused-requires c κs = search needs
 
 returns : tie.Need-returns
 returns c =
@@ -60,7 +59,7 @@ newly-late-requires c κs =
 tallied-requires : tie.Need-tallied-requires
 tallied-requires c κs =
     let b = c .before .before .before .before in
-    (handed-shaped (b .args .s) (b .pre), handed-short (b .args .s) (b .pre), ends (c .before) .in-time)
+    (handed-short (b .args .s) (b .pre), ends (c .before) .in-time)
 
 remove-requires : tie.Need-remove-requires
 remove-requires c κs =
@@ -73,10 +72,7 @@ chained-requires c κs =
     others-shaped (b .args .s) (b .pre) (b .args .at) (ends (c .before .before .before)) _ (c .remove .ensures)
 
 accepted-requires : tie.Need-accepted-requires
-accepted-requires c κs =
-    let b = c .before .before .before .before .before .before .before in
-    let few = others-few (b .args .s) (b .pre) (b .args .at) (ends (c .before .before .before .before)) in
-    subst⁻¹ (λ (z : Change). Shaped (z .list)) (change c) (chained-shaped (b .args .task) _ _ few)
+accepted-requires c κs = search needs
 
 returns-2 : tie.Need-returns-2
 returns-2 c =

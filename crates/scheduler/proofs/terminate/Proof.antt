@@ -1,16 +1,14 @@
 -- `scheduler::terminate` meets its contract. Assumes nothing.
-use mathlib.Core.Path.{_≡_, sym, ap, _∙_, subst⁻¹}
-use native.Mathlib.Omega.{arith}
+use mathlib.Core.Path.{_≡_, sym, ap, _∙_}
 use Rattle.rules.specs.declared.Call.the-variants.{Terminate}
 use Rattle.jobs.specs.declared.JobList.{JobList}
-use Rattle.jobs.specs.Listed.{view, Shaped}
+use Rattle.jobs.specs.Listed.{view}
 use Rattle.jobs.proofs.Laid.{view-pack}
-use Rattle.scheduler.specs.declared.Change.{Change}
 use Rattle.scheduler.specs.Steps.{settledIn}
 use Rattle.scheduler.proofs.Rows.{refusalIn}
 use Rattle.scheduler.proofs.Whole.{changeIn, endedOf}
-use Rattle.scheduler.proofs.Handed.{handed-shaped, handed-sorted, handed-short, handed-refused, handed-accepted, hand-on, Ends, terminate-ends, others-shaped, others-few}
-use Rattle.scheduler.proofs.Cases.{settled-shaped, ended-by}
+use Rattle.scheduler.proofs.Handed.{handed-shaped, handed-sorted, handed-short, handed-refused, handed-accepted, hand-on, Ends, terminate-ends, others-shaped}
+use Rattle.scheduler.proofs.Cases.{ended-by}
 use borrow.Author.Needs.{needs}
 use Rattle.scheduler.proofs.terminate.Statement.{statement}
 use Rattle.scheduler.proofs.terminate.Tie as tie
@@ -30,7 +28,7 @@ terminate-refusal-requires : tie.Need-terminate-refusal-requires
 terminate-refusal-requires c κs = search needs
 
 refused-requires : tie.Need-refused-requires
-refused-requires c κs = handed-shaped (c .before .before .args .s) (c .before .before .pre)
+refused-requires c κs = search needs
 
 returns : tie.Need-returns
 returns c =
@@ -47,7 +45,7 @@ newly-late-requires c κs =
 tallied-requires : tie.Need-tallied-requires
 tallied-requires c κs =
     let b = c .before .before .before in
-    (handed-shaped (b .args .s) (b .pre), handed-short (b .args .s) (b .pre), ends (c .before) .in-time)
+    (handed-short (b .args .s) (b .pre), ends (c .before) .in-time)
 
 remove-requires : tie.Need-remove-requires
 remove-requires c κs =
@@ -60,10 +58,7 @@ settled-requires c κs =
     others-shaped (b .args .s) (b .pre) (b .args .at) (ends (c .before .before .before)) _ (c .remove .ensures) .0
 
 accepted-requires : tie.Need-accepted-requires
-accepted-requires c κs =
-    let b = c .before .before .before .before .before .before in
-    let few = others-few (b .args .s) (b .pre) (b .args .at) (ends (c .before .before .before .before)) in
-    subst⁻¹ (λ (z : Change). Shaped (z .list)) (change c) (settled-shaped _ (omega (arith, few)))
+accepted-requires c κs = search needs
 
 returns-2 : tie.Need-returns-2
 returns-2 c =

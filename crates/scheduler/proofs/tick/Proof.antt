@@ -17,7 +17,7 @@ bad-tick-requires : tie.Need-bad-tick-requires
 bad-tick-requires c κs = search needs
 
 refused-requires : tie.Need-refused-requires
-refused-requires c κs = handed-shaped (c .before .before .args .s) (c .before .before .pre)
+refused-requires c κs = search needs
 
 returns : tie.Need-returns
 returns c =
@@ -35,7 +35,7 @@ with-late-requires : tie.Need-with-late-requires
 with-late-requires c κs = search needs
 
 accepted-requires : tie.Need-accepted-requires
-accepted-requires c κs = handed-shaped (c .before .before .before .before .before .args .s) (c .before .before .before .before .before .pre)
+accepted-requires c κs = search needs
 
 returns-2 : tie.Need-returns-2
 returns-2 c =

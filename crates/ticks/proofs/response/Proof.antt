@@ -12,16 +12,19 @@ returns : tie.Need-returns
 unfolding responseBy
 returns c = omega arith
 
-sub-early : tie.Need-sub-early
-sub-early c = search needs
+sub-t8 : tie.Need-sub-t8
+sub-t8 c = search needs
 
 returns-2 : tie.Need-returns-2
 unfolding responseBy
 returns-2 c = omega arith
+
+sub-result : tie.Need-sub-result
+sub-result c = search needs
 
 returns-3 : tie.Need-returns-3
 unfolding responseBy
 returns-3 c = omega arith
 
 pub response-spec : {M : Type 1} → statement M
-response-spec = tie.close (tie.spec add-result returns sub-early returns-2 returns-3)
+response-spec = tie.close (tie.spec add-result returns sub-t8 returns-2 sub-result returns-3)
