@@ -1,10 +1,11 @@
 // A model of the kernel's dispatcher: of the released jobs the highest priority runs, and within it the first released.
 ghost use mathlib.Core.Path.{_≡_};
-ghost use Rattle.jobs.specs.Listed.{view, Shaped};
+ghost use Rattle.jobs.specs.Listed.{view};
 ghost use Rattle.kernel.specs.Dispatch.{takesOver, betterOf, dispatchOf};
 ghost use Rattle.kernel.specs.Claims.{Claims};
 use jobs::JobList;
 use rules::Job;
+use rules::PLACES;
 use rules::Phase;
 use table::TaskTable;
 
@@ -50,10 +51,12 @@ fn better(table: TaskTable, at: usize, best: Best, job: Job) -> Best
 
 // The job that the kernel runs, by its place in the list.
 pub fn dispatch(list: JobList, table: TaskTable) -> Found
-    requires { ⌜ Shaped list ⌝ }
     ensures { λ r. ⌜ r ≡ dispatchOf (table .lines) (view list) ⌝ }
 {
-    let n = list.count;
+    let mut n = list.count;
+    if PLACES < n {
+        n = PLACES;
+    }
     let mut best = Best {
         found: Found::Nothing,
         top: 0,

@@ -1,5 +1,4 @@
 // The layer in words: tables and calls, each printed with its answer. For runs only.
-ghost use Rattle.jobs.specs.Listed.{Shaped};
 ghost use Rattle.scheduler.specs.State.{Handed};
 ghost use Rattle.play.specs.Run.{Kept};
 use jobs::JobList;
@@ -40,9 +39,7 @@ fn job(out: &mut [u8; ROOM], at: usize, job: Job) -> usize {
 }
 
 // The job that the kernel's dispatcher picks, as an answer shows it.
-fn picked(list: JobList, table: TaskTable) -> Choice
-    requires { ⌜ Shaped list ⌝ }
-{
+fn picked(list: JobList, table: TaskTable) -> Choice {
     let found = kernel::dispatch(list, table);
     match found {
         Found::Nothing => Choice::Idle,

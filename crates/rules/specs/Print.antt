@@ -156,9 +156,9 @@ abbrev pub checkedAs : Table → ℕ → Opened
 checkedAs T p = cond (eqb ((check T) .number) 0) (record { answer = Accepted; table = T; first = p }) (unopened (BadTable (check T)))
 
 -- the place is 0 for the table
-abbrev pub tableRead : Read Table → Opened
-tableRead (got T p) = checkedAs T p
-tableRead (no k) = unopened (BadTape k 0)
+abbrev pub tableOpened : Read Table → Opened
+tableOpened (got T p) = checkedAs T p
+tableOpened (no k) = unopened (BadTape k 0)
 
 -- a count above 32
 abbrev pub countAbove : NumberRead → Bool
@@ -170,7 +170,7 @@ unfoldable pub opening : List ℕ → Opened
 opening tape =
     cond (ltb longest (length tape)) (unopened (BadTape 26 longest))
     (cond (countAbove (boundedAt greatestByte tape 0)) (unopened (BadTable (verdict 1 NoneNamed)))
-    (tableRead (tableAt tape)))
+    (tableOpened (tableAt tape)))
 
 -- ---- the whole print
 

@@ -10,7 +10,7 @@ use Rattle.rules.specs.Table.{greatest, plus}
 unfoldable pub sum : Tick → Span → Tick
 sum t d = record { 0 = min ((plus t d) .0) (suc (greatest .0)) }
 
--- 9: above the greatest tick
+-- above the greatest tick: 9 of a call, 23 of the running sum on tape
 abbrev pub isBeyond : Tick → Bool
 isBeyond due = ltb (greatest .0) (due .0)
 

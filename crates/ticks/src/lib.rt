@@ -1,4 +1,4 @@
-// Ticks: the one sum of a tick and a relative deadline, and what is asked of ticks.
+// Ticks: the one sum of a tick and a length of time, and what is asked of ticks.
 ghost use mathlib.Core.Path.{_≡_};
 ghost use Prim.Native.Nat.{_+_, _≤_};
 ghost use Rattle.rules.specs.Table.{greatest, plus};

@@ -17,7 +17,7 @@ use Rattle.rules.specs.Words.{places}
 use Rattle.rules.specs.Table.{Table, size, fine, check}
 use Rattle.rules.specs.Number.{boundedAt}
 use Rattle.rules.specs.Tape.{greatestByte, Read, got, no, tableAt}
-use Rattle.rules.specs.Print.{unopened, longest, tableRead, countAbove, opening}
+use Rattle.rules.specs.Print.{unopened, longest, tableOpened, countAbove, opening}
 use Rattle.rules.proofs.Checked.{keeps-found, found-keeps}
 use Rattle.number.proofs.Groups.{below-or-not}
 use Rattle.number.proofs.Round.{bounded-value}
@@ -103,7 +103,7 @@ module _ (tape : List ℕ) where
       of-check h T p e f true z = table-accepted T p h e (accepts T (eqb-true _ _ z))
       of-check h T p e f false z = table-refused T p h e f (λ a. eqb-false _ _ z (number-0 T a))
 
-      of-read : length tape ≤ 65536 → ((k p : ℕ) → NumberWithin tape 0 255 k p → k ≤ 32) → (x : Read Table) → tableAt tape ≡ x → OpensAs tape ((tableRead x) .answer)
+      of-read : length tape ≤ 65536 → ((k p : ℕ) → NumberWithin tape 0 255 k p → k ≤ 32) → (x : Read Table) → tableAt tape ≡ x → OpensAs tape ((tableOpened x) .answer)
       of-read h f (no r) e = no-table r h f e
       of-read h f (got T p) e = let c = table-counted tape T p e in of-check h T p e (f (size T) (c .0) (c .1)) (eqb ((check T) .number) 0) refl
 

@@ -18,7 +18,7 @@ use Rattle.rules.specs.Layer.{fresh}
 use Rattle.rules.specs.Run.{Head, freshHead, Reached}
 use Rattle.rules.specs.Number.{boundedAt}
 use Rattle.rules.specs.Tape.{greatestByte, zeroTick, Read, got, no, tableAt, recordsAt}
-use Rattle.rules.specs.Print.{ended, headerText, recordsText, unopened, longest, tableRead, countAbove, opening, openingText, behindText, transcript}
+use Rattle.rules.specs.Print.{ended, headerText, recordsText, unopened, longest, tableOpened, countAbove, opening, openingText, behindText, transcript}
 use Rattle.rules.specs.Print
 use Rattle.rules.proofs.Checked.{keeps-found, found-keeps}
 use Rattle.rules.proofs.Reached.{reached-fresh}
@@ -50,7 +50,7 @@ no-tape n p e = let z : _≡_ {A = ℕ} 0 1 = cc in absurd (omega arith)
 no-table : (v : Verdict) → Checks (unopened (BadTable v))
 no-table v e = let z : _≡_ {A = ℕ} 0 1 = cc in absurd (omega arith)
 
-read-checks : (r : Read Table) → Checks (tableRead r)
+read-checks : (r : Read Table) → Checks (tableOpened r)
 read-checks (no k) = no-tape k 0
 read-checks (got T p) = go (eqb ((check T) .number) 0) refl
   where
@@ -106,7 +106,7 @@ module _ (tape : List ℕ) (short : length tape ≤ longest) where
   opens-above h = rw (le-ltb longest (length tape) short, h)
 
   module _ (few : countAbove (boundedAt greatestByte tape 0) ≡ false) where
-    opens-read : openedOf tape ≡ openedAs (tableRead (tableAt tape))
+    opens-read : openedOf tape ≡ openedAs (tableOpened (tableAt tape))
     unfolding openedOf opening
     opens-read = rw (le-ltb longest (length tape) short, few)
 
@@ -114,7 +114,7 @@ module _ (tape : List ℕ) (short : length tape ≤ longest) where
     pub opens-unread : (k : ℕ) → (tableIn (tableAt tape)) .answer ≡ TableRead.Refused k → openedOf tape ≡ openedAs (unopened (BadTape k 0))
     opens-unread k h = opens-read ∙ go (tableAt tape) h
       where
-        go : (r : Read Table) → (tableIn r) .answer ≡ TableRead.Refused k → openedAs (tableRead r) ≡ openedAs (unopened (BadTape k 0))
+        go : (r : Read Table) → (tableIn r) .answer ≡ TableRead.Refused k → openedAs (tableOpened r) ≡ openedAs (unopened (BadTape k 0))
         go (no j) e = let same : j ≡ k = cc in rw same
         go (got T p) e = let z : _≡_ {A = ℕ} 0 1 = cc in absurd (omega arith)
 
@@ -124,7 +124,7 @@ module _ (tape : List ℕ) (short : length tape ≤ longest) where
       opens-refused z = opens-read ∙ go (tableAt tape) told checked
         where
           go : (x : Read Table) → (tableIn x) .answer ≡ TableRead.Table n → r ≡ checkedOf ((tableIn x) .table)
-              → openedAs (tableRead x) ≡ openedAs (unopened (BadTable (r .verdict)))
+              → openedAs (tableOpened x) ≡ openedAs (unopened (BadTable (r .verdict)))
           go (no k) e c = let z : _≡_ {A = ℕ} 0 1 = cc in absurd (omega arith)
           go (got T p) e c =
               let v : r .verdict ≡ check T = verdict-is T r c in
@@ -134,7 +134,7 @@ module _ (tape : List ℕ) (short : length tape ≤ longest) where
       opens-accepted z = opens-read ∙ go (tableAt tape) told checked
         where
           go : (x : Read Table) → (tableIn x) .answer ≡ TableRead.Table n → r ≡ checkedOf ((tableIn x) .table)
-              → openedAs (tableRead x) ≡ record { answer = Accepted; run = record { state = r .state; at = n; preceding = zeroTick } }
+              → openedAs (tableOpened x) ≡ record { answer = Accepted; run = record { state = r .state; at = n; preceding = zeroTick } }
           go (no k) e c = let z : _≡_ {A = ℕ} 0 1 = cc in absurd (omega arith)
           go (got T p) e c =
               let number : (check T) .number ≡ 0 = sym (ap (λ (w : Verdict). w .number) (verdict-is T r c)) ∙ z in

@@ -7,14 +7,14 @@ use Rattle.transcript.proofs.open_line.Reads as open-line
 use Rattle.transcript.proofs.next_line.Reads as next-line
 
 pub record Outcomes : Type 0 where
-  opens : OneStated opens.Post
+  «open» : OneStated opens.Post
   open-line : OneStatedWith open-line.Post (λ κs s. now (s .0))
   next-line : OneStatedWith next-line.Post (λ κs s. now (s .1 .1 .0))
 
 pub the-outcomes : Outcomes
 the-outcomes =
     record {
-      opens = λ κs a r r′ s s′ p q. only (p .0) (q .0);
+      «open» = λ κs a r r′ s s′ p q. only (p .0) (q .0);
       open-line = λ κs a r r′ s s′ p q. (only (p .place) (q .place), only (p .is) (q .is));
       next-line = λ κs a r r′ s s′. one-lined (now (a .0)) (a .1 .0) (now (a .1 .1 .0)) (a .1 .1 .1 .0) r r′ (now (s .1 .1 .0)) (now (s′ .1 .1 .0));
     }

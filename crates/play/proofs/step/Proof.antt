@@ -1,5 +1,4 @@
 -- `play::step` meets its contract. Assumes nothing.
-use Rattle.scheduler.proofs.Handed.{handed-shaped}
 use borrow.Author.Needs.{needs}
 use Rattle.play.proofs.step.Statement.{statement}
 use Rattle.play.proofs.step.Tie as tie
@@ -8,7 +7,7 @@ byte-at-requires : tie.Need-byte-at-requires
 byte-at-requires c κs = search needs
 
 picked-requires : tie.Need-picked-requires
-picked-requires c κs = handed-shaped (c .before .before .before .args .s) (c .before .before .before .pre)
+picked-requires c κs = search needs
 
 listed-requires : tie.Need-listed-requires
 listed-requires c κs = search needs
