@@ -89,13 +89,13 @@ fn ended_jobs() {
     show::heading(b"ended jobs and the greatest response");
     let m = set(5, 4294967292, 7);
     shown(b"set", m);
-    let m = monitor::with_ended(m, 0, 6);
+    let m = monitor::with_ended(m, true, 0, 6);
     shown(b"one of task 0, response 6", m);
-    let m = monitor::with_ended(m, 0, 7);
+    let m = monitor::with_ended(m, true, 0, 7);
     shown(b"one of task 0, response 7", m);
-    let m = monitor::with_ended(m, 0, 8);
+    let m = monitor::with_ended(m, true, 0, 8);
     shown(b"one of task 0, response 8", m);
-    let m = monitor::with_ended(m, 0, 0);
+    let m = monitor::with_ended(m, true, 0, 0);
     shown(b"one of task 0, response 0", m);
 }
 
@@ -103,11 +103,11 @@ fn greatest_response() {
     show::heading(b"the greatest response has no stop, also where the count stands still");
     let m = set(5, 4294967295, 8);
     shown(b"set", m);
-    let m = monitor::with_ended(m, 31, 9);
+    let m = monitor::with_ended(m, true, 31, 9);
     shown(b"one of task 31, response 9", m);
-    let m = monitor::with_ended(m, 31, 4611686018427387903);
+    let m = monitor::with_ended(m, true, 31, 4611686018427387903);
     shown(b"one of task 31, response 4611686018427387903", m);
-    let m = monitor::with_ended(m, 31, 9);
+    let m = monitor::with_ended(m, true, 31, 9);
     shown(b"one of task 31, response 9", m);
 }
 

@@ -37,7 +37,7 @@ jobs-back : (l : List Job) → map jobIn (map placedJob l) ≡ l
 jobs-back [] = refl
 jobs-back (j ∷ l) = λ i. record { due = j .due; task = j .task; phase = phase-back (j .phase) i } ∷ jobs-back l i
 
-places-back : (l : List HeadJob) → map placedJob (map jobIn l) ≡ l
+pub places-back : (l : List HeadJob) → map placedJob (map jobIn l) ≡ l
 places-back [] = refl
 places-back (j ∷ l) = λ i. record { due = j .due; task = j .task; released = released-back (j .released) i } ∷ places-back l i
 

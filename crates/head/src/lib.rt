@@ -1,7 +1,12 @@
 // The scheduler of one recorder head, for C: the same calls as the board's, over structs without enums.
 ghost use mathlib.Core.Path.{_≡_};
+ghost use mathlib.Core.List.{map};
+ghost use Prim.Native.Nat.{_≤_, max};
+ghost use lib.ListN.{drop, replicate};
+ghost use Rattle.rules.specs.Words.{places};
 ghost use Rattle.rules.specs.declared.Call.the-variants.{Wait, Activate, Terminate, Chain};
 ghost use Rattle.rules.specs.Layer.{isReleased};
+ghost use Rattle.jobs.specs.Listed.{blankJob};
 ghost use Rattle.head.specs.Placed.{phaseIn, placedJob, jobIn, placed, stateIn, HeadHanded, runsIn, taskIn, dueIn, numberOf, calledOf, answerFor, verdictFor};
 ghost use Rattle.head.specs.Calls.{checkedTable, HeadHandedOut, LinesChecked, steppedFor, headStep, Left};
 ghost use Rattle.head.specs.Claims.{Claims};
@@ -109,36 +114,53 @@ fn placed_job(job: Job) -> HeadJob
     }
 }
 
-// The job that C keeps.
-fn job_in(job: HeadJob) -> Job
-    ensures { λ r. ⌜ r ≡ jobIn job ⌝ }
+// Jobs as C keeps them: the first n are taken over, and those behind them are there already.
+fn placed_jobs(there: [HeadJob; PLACES], jobs: [Job; PLACES], n: usize) -> [HeadJob; PLACES]
+    requires { ⌜ (n ≤ places) × (drop n there ≡ drop n (map placedJob jobs)) ⌝ }
+    ensures { λ r. ⌜ r ≡ map placedJob jobs ⌝ }
 {
-    let due = job.due;
-    Job {
-        due,
-        task: job.task,
-        phase: phase_in(job.released),
-    }
-}
-
-// A state as C keeps it.
-fn placed(s: State) -> HeadState
-    ensures { λ r. ⌜ r ≡ placed s ⌝ }
-{
-    let list = s.list;
-    let mut jobs = [HeadJob {
-        due: Tick(0),
-        task: 0,
-        released: false,
-    }; PLACES];
+    let mut out = there;
     let mut i = 0;
-    while i < PLACES {
-        let job = list.jobs[i];
-        jobs[i] = placed_job(job);
+    while i < n {
+        let job = jobs[i];
+        out[i] = placed_job(job);
         i += 1;
     }
+    out
+}
+
+// The jobs that C keeps: the first n are taken over, and those behind them are blank. A flag is read where it stands: so it is known to be 0 or 1, as a phase is.
+fn jobs_in(jobs: [HeadJob; PLACES], n: usize) -> [Job; PLACES]
+    requires { ⌜ (n ≤ places) × (drop n (replicate places blankJob) ≡ drop n (map jobIn jobs)) ⌝ }
+    ensures { λ r. ⌜ r ≡ map jobIn jobs ⌝ }
+{
+    let mut out = [Job {
+        due: Tick(0),
+        task: 0,
+        phase: Phase::Delayed,
+    }; PLACES];
+    let mut i = 0;
+    while i < n {
+        let job = jobs[i];
+        let due = job.due;
+        out[i] = Job {
+            due,
+            task: job.task,
+            phase: phase_in(jobs[i].released),
+        };
+        i += 1;
+    }
+    out
+}
+
+// A state as C keeps it, by its jobs as C keeps them.
+fn placed_with(s: State, jobs: [HeadJob; PLACES]) -> HeadState
+    requires { ⌜ jobs ≡ map placedJob (s .list .jobs) ⌝ }
+    ensures { λ r. ⌜ r ≡ placed s ⌝ }
+{
     let table = s.table;
     let last = s.last;
+    let list = s.list;
     let monitor = s.monitor;
     HeadState {
         table,
@@ -149,21 +171,25 @@ fn placed(s: State) -> HeadState
     }
 }
 
-// The state that C keeps.
-fn state_in(p: HeadState) -> State
-    ensures { λ r. ⌜ r ≡ stateIn p ⌝ }
+// A state as C keeps it.
+fn placed(s: State) -> HeadState
+    ensures { λ r. ⌜ r ≡ placed s ⌝ }
 {
-    let mut jobs = [Job {
+    let list = s.list;
+    let jobs = list.jobs;
+    let none = [HeadJob {
         due: Tick(0),
         task: 0,
-        phase: Phase::Delayed,
+        released: false,
     }; PLACES];
-    let mut i = 0;
-    while i < PLACES {
-        let job = p.jobs[i];
-        jobs[i] = job_in(job);
-        i += 1;
-    }
+    placed_with(s, placed_jobs(none, jobs, PLACES))
+}
+
+// The state that C keeps, by its jobs.
+fn state_in(p: HeadState, jobs: [Job; PLACES]) -> State
+    requires { ⌜ jobs ≡ map jobIn (p .jobs) ⌝ }
+    ensures { λ r. ⌜ r ≡ stateIn p ⌝ }
+{
     let table = p.table;
     let last = p.last;
     let list = JobList {
@@ -177,6 +203,16 @@ fn state_in(p: HeadState) -> State
         list,
         monitor,
     }
+}
+
+// The greater of two counts.
+fn greater(m: usize, n: usize) -> usize
+    ensures { λ r. ⌜ r ≡ max m n ⌝ }
+{
+    if m < n {
+        return n;
+    }
+    m
 }
 
 // ---- how an answer is given to C
@@ -297,26 +333,29 @@ fn checked_table(t: TaskTable) -> HeadChecked
 
 // ---- the calls by value
 
-// What a call gives, as C keeps it.
-fn stepped_for(next: Stepped) -> HeadStepped
+// What a call gives, as C keeps it, by its jobs as C keeps them.
+fn stepped_for(next: Stepped, jobs: [HeadJob; PLACES]) -> HeadStepped
+    requires { ⌜ jobs ≡ map placedJob (next .state .list .jobs) ⌝ }
     ensures { λ r. ⌜ r ≡ steppedFor next ⌝ }
 {
     let state = next.state;
     let answer = next.answer;
     HeadStepped {
-        state: placed(state),
+        state: placed_with(state, jobs),
         answer: answer_for(answer),
     }
 }
 
-// Tick, by value.
+// Tick, by value. It leaves the jobs as they are.
 fn step_tick(p: HeadState, at: Tick) -> HeadStepped
     requires { ⌜ HeadHanded p ⌝ }
     ensures { λ r. ⌜ (r ≡ headStep p (Wait at)) × HeadHanded (r .state) ⌝ }
 {
-    let s = state_in(p);
+    let jobs = p.jobs;
+    let n = p.count;
+    let s = state_in(p, jobs_in(jobs, n));
     let next = scheduler::tick(s, at);
-    stepped_for(next)
+    stepped_for(next, jobs)
 }
 
 // Activate, by value.
@@ -324,9 +363,14 @@ fn step_activate(p: HeadState, at: Tick, task: u8) -> HeadStepped
     requires { ⌜ HeadHanded p ⌝ }
     ensures { λ r. ⌜ (r ≡ headStep p (Activate at task)) × HeadHanded (r .state) ⌝ }
 {
-    let s = state_in(p);
+    let jobs = p.jobs;
+    let n = p.count;
+    let s = state_in(p, jobs_in(jobs, n));
     let next = scheduler::activate(s, at, task);
-    stepped_for(next)
+    let state = next.state;
+    let list = state.list;
+    let after = list.jobs;
+    stepped_for(next, placed_jobs(jobs, after, greater(n, list.count)))
 }
 
 // Terminate, by value.
@@ -334,9 +378,14 @@ fn step_terminate(p: HeadState, at: Tick) -> HeadStepped
     requires { ⌜ HeadHanded p ⌝ }
     ensures { λ r. ⌜ (r ≡ headStep p (Terminate at)) × HeadHanded (r .state) ⌝ }
 {
-    let s = state_in(p);
+    let jobs = p.jobs;
+    let n = p.count;
+    let s = state_in(p, jobs_in(jobs, n));
     let next = scheduler::terminate(s, at);
-    stepped_for(next)
+    let state = next.state;
+    let list = state.list;
+    let after = list.jobs;
+    stepped_for(next, placed_jobs(jobs, after, greater(n, list.count)))
 }
 
 // Chain, by value.
@@ -344,9 +393,14 @@ fn step_chain(p: HeadState, at: Tick, task: u8) -> HeadStepped
     requires { ⌜ HeadHanded p ⌝ }
     ensures { λ r. ⌜ (r ≡ headStep p (Chain at task)) × HeadHanded (r .state) ⌝ }
 {
-    let s = state_in(p);
+    let jobs = p.jobs;
+    let n = p.count;
+    let s = state_in(p, jobs_in(jobs, n));
     let next = scheduler::chain(s, at, task);
-    stepped_for(next)
+    let state = next.state;
+    let list = state.list;
+    let after = list.jobs;
+    stepped_for(next, placed_jobs(jobs, after, greater(n, list.count)))
 }
 
 // ---- the check and the calls for C: lines as they are, the state of a recorder head updated where it stands

@@ -1,5 +1,6 @@
 pub mod Laid
 pub mod Shifts
+pub mod Changes
 pub mod Scans
 pub mod Lates
 mod Outcomes

@@ -3,10 +3,12 @@ use Rattle.rules.proofs.Outcome.{OneStated, only}
 use Rattle.jobs.proofs.empty.Reads as empty
 use Rattle.jobs.proofs.is_first.Reads as is-first
 use Rattle.jobs.proofs.insert.Reads as insert
-use Rattle.jobs.proofs.remove.Reads as remove
+use Rattle.jobs.proofs.remove_first.Reads as remove-first
+use Rattle.jobs.proofs.replace_first.Reads as replace-first
 use Rattle.jobs.proofs.pending_from.Reads as pending-from
 use Rattle.jobs.proofs.first.Reads as first
-use Rattle.jobs.proofs.release_first.Reads as release-first
+use Rattle.jobs.proofs.front.Reads as front
+use Rattle.jobs.proofs.front_with.Reads as front-with
 use Rattle.jobs.proofs.none_late.Reads as none-late
 use Rattle.jobs.proofs.newly_late.Reads as newly-late
 
@@ -14,10 +16,12 @@ pub record Outcomes : Type 0 where
   empty : OneStated empty.Post
   is-first : OneStated is-first.Post
   insert : OneStated insert.Post
-  remove : OneStated remove.Post
+  remove-first : OneStated remove-first.Post
+  replace-first : OneStated replace-first.Post
   pending-from : OneStated pending-from.Post
   first : OneStated first.Post
-  release-first : OneStated release-first.Post
+  front : OneStated front.Post
+  front-with : OneStated front-with.Post
   none-late : OneStated none-late.Post
   newly-late : OneStated newly-late.Post
 
@@ -27,10 +31,12 @@ the-outcomes =
       empty = λ κs a r r′ s s′. only;
       is-first = λ κs a r r′ s s′. only;
       insert = λ κs a r r′ s s′. only;
-      remove = λ κs a r r′ s s′. only;
+      remove-first = λ κs a r r′ s s′. only;
+      replace-first = λ κs a r r′ s s′. only;
       pending-from = λ κs a r r′ s s′. only;
       first = λ κs a r r′ s s′. only;
-      release-first = λ κs a r r′ s s′. only;
+      front = λ κs a r r′ s s′. only;
+      front-with = λ κs a r r′ s s′. only;
       none-late = λ κs a r r′ s s′. only;
       newly-late = λ κs a r r′ s s′. only;
     }

@@ -1,147 +1,127 @@
 -- Jobs that go one place back or up: turns of the loops, and what they make of a list with blanks behind it. Assumes nothing.
 use Prim.Native.Nat.{ℕ, zero, suc, _+_, _-_, _≤_, _<_}
-use mathlib.Core.Path.{_≡_, refl, ap, _∙_}
-use mathlib.Core.Bool.{Bool, true, false, cond}
-use mathlib.Core.List.{List, [], _∷_, _++_}
-use native.Mathlib.Nat.{not-suc-le-zero, le-of-suc-le-suc}
+use mathlib.Core.Path.{_≡_, refl, sym, ap, _∙_}
+use mathlib.Core.Bool.{Bool, true, false}
+use mathlib.Core.List.{List, _∷_, _++_}
+use native.Mathlib.Nat.{not-suc-le-zero}
 use native.Mathlib.Numerals.{add-one}
 use native.Mathlib.Omega.{arith}
-use lib.ListN.{length, take, drop, set, getD, replicate, take-append-drop}
-use lib.Seq.{drop-cons, take-suc-set, drop-set-lt, append-snoc, set-split}
-use Rattle.rules.specs.Words.{places}
+use borrow.Author.Tests.{le-ltb, lt-ltb}
+use lib.ListN.{length, take, drop, set, getD, length-take, drop-of-length-le}
+use lib.Seq.{drop-cons, take-suc-set, drop-set-lt, append-snoc, set-split, take-set-le, take-take, getD-take, drop-at, length-take-le}
 use Rattle.rules.specs.declared.Job.{Job}
-use Rattle.jobs.specs.declared.JobList.{JobList}
-use Rattle.jobs.specs.Listed.{blankJob, view, pack, Shaped, goesBefore, insertDue, removeAt}
-use Rattle.jobs.specs.Inside.{placeOf, shove, openAt, pull, closeAt}
-use Rattle.jobs.proofs.Laid.{view-length, count-pack, pack-shaped}
+use Rattle.jobs.specs.Listed.{blankJob, goesBefore}
+use Rattle.jobs.specs.Inside.{behind, openAt, enterAt, slide, slideAt, ledIf, leaveAt, replaceAt}
 
--- ---- one place back
+-- ---- a new job: turns of `entered`
 
--- a turn of `opened`
-pub open-step : (out : List Job) (c d : Job) (i end : ℕ) → i < end → end ≤ length out → openAt (i + 1) end (getD out i d) (set out i c) ≡ openAt i end c out
-unfolding openAt shove
-open-step out c d i end h m =
-    let e : end - i ≡ suc (end - suc i) = omega arith in
-    let k : i < length out = omega arith in
-    rw (add-one, e, take-suc-set out i c k, drop-set-lt (suc i) out i c (omega arith), drop-cons out i d k)
-    (append-snoc (take i out) c (shove (end - suc i) (getD out i d) (drop (suc i) out)))
+-- behind the jobs there is nothing to move yet
+pub enter-start : (xs : List Job) (n : ℕ) → drop (suc n) xs ≡ drop n (take n xs) ++ drop (suc n) xs
+enter-start xs n = ap (λ (l : List Job). l ++ drop (suc n) xs) (sym (drop-of-length-le (take n xs) {i = n} (omega (arith, length-take n xs))))
 
--- `opened` is at the end
-pub open-end : (out : List Job) (c : Job) (i end : ℕ) → end ≤ i → openAt i end c out ≡ out
-unfolding openAt shove
-open-end out c i end h =
-    let e : end - i ≡ 0 = omega arith in
-    rw e (take-append-drop i out)
+module _ (xs out : List Job) (n k : ℕ) (front : take (suc k) out ≡ take (suc k) xs) where
+  -- a job in front of the place stands where it stood
+  pub enter-same : getD out k blankJob ≡ getD xs k blankJob
+  enter-same =
+      sym (getD-take (suc k) out k blankJob (omega arith)) ∙ ap (λ (l : List Job). getD l k blankJob) front ∙ getD-take (suc k) xs k blankJob (omega arith)
 
--- all the jobs and the first blank: what falls off is a blank
-shove-padded : (x : Job) (xs : List Job) (n : ℕ) → shove (suc (length xs)) x (xs ++ replicate (suc n) blankJob) ≡ x ∷ (xs ++ replicate n blankJob)
-unfolding shove
-shove-padded x [] n = refl
-shove-padded x (y ∷ ys) n = ap (λ (l : List Job). x ∷ l) (shove-padded y ys n)
+  pub enter-front : (o : Job) → take k (set out (suc k) o) ≡ take k xs
+  enter-front o =
+      take-set-le k out (suc k) o (omega arith) ∙ sym (take-take k (suc k) out (omega arith)) ∙ ap (take k) front ∙ take-take k (suc k) xs (omega arith)
 
--- a job put at its place is inserted
-insert-padded : (j : Job) (xs : List Job) (n : ℕ) → openAt (placeOf j xs) (suc (length xs)) j (xs ++ replicate (suc n) blankJob) ≡ insertDue j xs ++ replicate n blankJob
-unfolding openAt placeOf insertDue
-insert-padded j [] n = shove-padded j [] n
-insert-padded j (x ∷ xs) n = go (goesBefore j x) (insert-padded j xs n)
-  where
-    go : (b : Bool) → openAt (placeOf j xs) (suc (length xs)) j (xs ++ replicate (suc n) blankJob) ≡ insertDue j xs ++ replicate n blankJob
-        → openAt (cond b 0 (suc (placeOf j xs))) (suc (suc (length xs))) j (x ∷ (xs ++ replicate (suc n) blankJob)) ≡ cond b (j ∷ x ∷ xs) (x ∷ insertDue j xs) ++ replicate n blankJob
-    go true ih =
-        let e : suc (suc (length xs)) - 0 ≡ suc (suc (length xs)) = omega arith in
-        rw e (shove-padded j (x ∷ xs) n)
-    go false ih =
-        let e : suc (suc (length xs)) - suc (placeOf j xs) ≡ suc (length xs) - placeOf j xs = omega arith in
-        rw e (ap (λ (l : List Job). x ∷ l) ih)
+  -- it goes one place back
+  pub enter-back : k < n → n < length xs → length out ≡ length xs → drop (suc (suc k)) out ≡ drop (suc k) (take n xs) ++ drop (suc n) xs
+      → drop (suc k) (set out (suc k) (getD out k blankJob)) ≡ drop k (take n xs) ++ drop (suc n) xs
+  enter-back h m e back =
+      let o = getD out k blankJob in
+      let f : getD out k blankJob ≡ getD (take n xs) k blankJob = enter-same ∙ sym (getD-take n xs k blankJob h) in
+      let w : k < length (take n xs) = omega (arith, length-take n xs) in
+      ap (drop (suc k)) (set-split out (suc k) o (omega arith))
+      ∙ drop-at (take (suc k) out) (o ∷ drop (suc (suc k)) out) (suc k) (length-take-le (suc k) out (omega arith))
+      ∙ (λ i. f i ∷ back i)
+      ∙ ap (λ (l : List Job). l ++ drop (suc n) xs) (sym (drop-cons (take n xs) k blankJob w))
 
-pub length-insert : (j : Job) (xs : List Job) → length (insertDue j xs) ≡ suc (length xs)
-unfolding insertDue
-length-insert j [] = refl
-length-insert j (x ∷ xs) = go (goesBefore j x) (length-insert j xs)
-  where
-    go : (b : Bool) → length (insertDue j xs) ≡ suc (length xs) → length (cond b (j ∷ x ∷ xs) (x ∷ insertDue j xs)) ≡ suc (suc (length xs))
-    go true ih = refl
-    go false ih = ap suc ih
+pub behind-step : (j : Job) (xs : List Job) (k : ℕ) → goesBefore j (getD xs k blankJob) ≡ true → behind (suc k) j xs ≡ behind k j xs
+unfolding behind
+behind-step j xs k h = rw h
 
-insert-packed : (j : Job) (xs : List Job) → length xs < places → _≡_ {A = JobList} (record { jobs = openAt (placeOf j xs) (pack xs .count + 1) j (pack xs .jobs); count = pack xs .count + 1 }) (pack (insertDue j xs))
-unfolding pack
-insert-packed j xs h =
-    let e : places - length xs ≡ suc ((places - 1) - length xs) = omega arith in
-    let f : places - length (insertDue j xs) ≡ (places - 1) - length xs = omega (arith, length-insert j xs) in
-    let q : length xs + 1 ≡ length (insertDue j xs) = omega (arith, length-insert j xs) in
-    let p : openAt (placeOf j xs) (length xs + 1) j (xs ++ replicate (places - length xs) blankJob) ≡ insertDue j xs ++ replicate (places - length (insertDue j xs)) blankJob = rw (add-one, e, f) (insert-padded j xs ((places - 1) - length xs)) in
-    λ i. record { jobs = p i; count = q i }
+pub behind-here : (j : Job) (xs : List Job) (k : ℕ) → goesBefore j (getD xs k blankJob) ≡ false → behind (suc k) j xs ≡ suc k
+unfolding behind
+behind-here j xs k h = rw h
 
--- what `insert` makes
-pub insert-law : (l : JobList) (j : Job) → Shaped l → l .count < places → _≡_ {A = JobList} (record { jobs = openAt (placeOf j (view l)) (l .count + 1) j (l .jobs); count = l .count + 1 }) (pack (insertDue j (view l)))
-insert-law l j s h =
-    let k : length (view l) < places = omega (arith, view-length l s) in
-    ap (λ (x : JobList). record { jobs = openAt (placeOf j (view l)) (x .count + 1) j (x .jobs); count = x .count + 1 }) (s .blanks) ∙ insert-packed j (view l) k
+pub behind-none : (j : Job) (xs : List Job) → behind 0 j xs ≡ 0
+unfolding behind
+behind-none j xs = refl
 
-pub insert-shaped : (l : JobList) (j : Job) → Shaped l → l .count < places → Shaped (pack (insertDue j (view l)))
-insert-shaped l j s h = pack-shaped (insertDue j (view l)) (omega (arith, length-insert j (view l), view-length l s))
+-- what a turn keeps: those in front of place i stand where they stood, those from there on one place back, and the job's place is no further
+abbrev pub Entering : List Job → Job → ℕ → List Job → ℕ → Type 0
+Entering xs j n out i = (take i out ≡ take i xs) × (drop (suc i) out ≡ drop i (take n xs) ++ drop (suc n) xs) × (behind i j xs ≡ behind n j xs)
 
--- ---- one place up
+pub enter-turn : (xs out : List Job) (j : Job) (n i : ℕ) → 0 < i → i ≤ n → n < length xs → length out ≡ length xs
+    → goesBefore j (getD out (i - 1) blankJob) ≡ true → Entering xs j n out i → Entering xs j n (set out i (getD out (i - 1) blankJob)) (i - 1)
+enter-turn xs out j n zero z h m e b t = absurd (not-suc-le-zero z)
+enter-turn xs out j n (suc k) z h m e b t =
+    let q : suc k - 1 ≡ k = omega arith in
+    let g : goesBefore j (getD xs k blankJob) ≡ true = ap (λ (x : Job). goesBefore j x) (sym (enter-same xs out n k (t .0))) ∙ (rw q at b) in
+    rw q
+    (enter-front xs out n k (t .0) _, enter-back xs out n k (t .0) (omega arith) m e (t .1), sym (behind-step j xs k g) ∙ t .2)
 
--- a turn of `closed`
-pub close-step : (out : List Job) (d : Job) (i end : ℕ) → i + 1 < end → end ≤ length out → closeAt (i + 1) end (set out i (getD out (i + 1) d)) ≡ closeAt i end out
-unfolding closeAt pull
-close-step out d i end h m =
-    let e : end - i ≡ suc (suc (end - suc (suc i))) = omega arith in
-    let f : end - suc i ≡ suc (end - suc (suc i)) = omega arith in
+-- where it ends the job's place is
+pub enter-halt : (xs out : List Job) (j : Job) (n i : ℕ) → 0 < i → goesBefore j (getD out (i - 1) blankJob) ≡ false → Entering xs j n out i → i ≡ behind n j xs
+enter-halt xs out j n zero z b t = absurd (not-suc-le-zero z)
+enter-halt xs out j n (suc k) z b t =
+    let q : suc k - 1 ≡ k = omega arith in
+    let g : goesBefore j (getD xs k blankJob) ≡ false = ap (λ (x : Job). goesBefore j x) (sym (enter-same xs out n k (t .0))) ∙ (rw q at b) in
+    sym (behind-here j xs k g) ∙ t .2
+
+-- the job is put at its place
+pub enter-end : (xs out : List Job) (j : Job) (n i : ℕ) → i < length out → Entering xs j n out i → i ≡ behind n j xs → set out i j ≡ enterAt n j xs
+unfolding enterAt
+enter-end xs out j n i h t e =
+    set-split out i j h ∙ (λ w. t .0 w ++ j ∷ t .1 w) ∙ ap (λ p. openAt p n j xs) e
+
+-- ---- the first job leaves: turns of `left` and `replaced`
+
+pub slide-step : (stop : Job → Bool) (out : List Job) (j : Job) (n i : ℕ) → i + 1 < n → n ≤ length out → stop (getD out (i + 1) blankJob) ≡ false
+    → slideAt stop n j (i + 1) (set out i (getD out (i + 1) blankJob)) ≡ slideAt stop n j i out
+unfolding slideAt slide
+slide-step stop out j n i h m e =
+    let f : n - suc i ≡ suc (n - suc (suc i)) = omega arith in
     let k : i < length out = omega arith in
     let g : suc i < length out = omega arith in
-    rw (add-one, e, f, take-suc-set out i (getD out (suc i) d) k, drop-set-lt (suc i) out i (getD out (suc i) d) (omega arith), drop-cons out i d k, drop-cons out (suc i) d g)
-    (append-snoc (take i out) (getD out (suc i) d) _)
+    let w : stop (getD out (suc i) blankJob) ≡ false = rw add-one at e in
+    rw (add-one, add-one, f, take-suc-set out i (getD out (suc i) blankJob) k, drop-set-lt (suc i) out i (getD out (suc i) blankJob) (omega arith), drop-cons out i blankJob k, drop-cons out (suc i) blankJob g, w)
+    (append-snoc (take i out) (getD out (suc i) blankJob) _)
 
--- `closed` is at the last place
-pub close-end : (out : List Job) (i end : ℕ) → i + 1 ≡ end → end ≤ length out → set out i blankJob ≡ closeAt i end out
-unfolding closeAt pull
-close-end out i end h m =
-    let e : end - i ≡ 1 = omega arith in
+-- at the last place, and at one that stops it
+pub slide-end : (stop : Job → Bool) (out : List Job) (j : Job) (n i : ℕ) → i < length out → n ≤ i + 1 → set out i j ≡ slideAt stop n j i out
+unfolding slideAt slide
+slide-end stop out j n i h m =
+    let f : n - (i + 1) ≡ 0 = omega arith in
+    rw (f, drop-cons out i blankJob h) (set-split out i j h)
+
+pub slide-stop : (stop : Job → Bool) (out : List Job) (j : Job) (n i : ℕ) → i + 1 < n → n ≤ length out → stop (getD out (i + 1) blankJob) ≡ true → set out i j ≡ slideAt stop n j i out
+unfolding slideAt slide
+slide-stop stop out j n i h m e =
+    let f : n - suc i ≡ suc (n - suc (suc i)) = omega arith in
     let k : i < length out = omega arith in
-    rw (e, drop-cons out i blankJob k) (set-split out i blankJob k)
+    let g : suc i < length out = omega arith in
+    let w : stop (getD out (suc i) blankJob) ≡ true = rw add-one at e in
+    set-split out i j k ∙ rw (add-one, f, drop-cons out i blankJob k, drop-cons out (suc i) blankJob g, w) refl
 
--- the last job's place becomes a blank
-pull-padded : (x : Job) (xs ys : List Job) → pull (suc (length xs)) (x ∷ (xs ++ ys)) ≡ xs ++ (blankJob ∷ ys)
-unfolding pull
-pull-padded x [] ys = refl
-pull-padded x (y ∷ xs) ys = ap (λ (l : List Job). y ∷ l) (pull-padded y xs ys)
+-- the first of those that are left is released, if there is one
+pub leave-led : (n : ℕ) (j : Job) (xs : List Job) → 1 < n → ledIf true (slideAt (λ (x : Job). false) n j 0 xs) ≡ leaveAt n j xs
+unfolding leaveAt
+leave-led n j xs h = rw (lt-ltb 1 n h)
 
--- a job taken out is removed
-remove-padded : (k : ℕ) (xs : List Job) (n : ℕ) → k < length xs → closeAt k (length xs) (xs ++ replicate n blankJob) ≡ removeAt k xs ++ replicate (suc n) blankJob
-unfolding closeAt removeAt
-remove-padded k [] n h = absurd (not-suc-le-zero h)
-remove-padded zero (x ∷ xs) n h =
-    let e : suc (length xs) - 0 ≡ suc (length xs) = omega arith in
-    rw e (pull-padded x xs (replicate n blankJob))
-remove-padded (suc k) (x ∷ xs) n h =
-    let e : suc (length xs) - suc k ≡ length xs - k = omega arith in
-    rw e (ap (λ (l : List Job). x ∷ l) (remove-padded k xs n (le-of-suc-le-suc h)))
+pub leave-none : (n : ℕ) (j : Job) (xs : List Job) → n ≤ 1 → slideAt (λ (x : Job). false) n j 0 xs ≡ leaveAt n j xs
+unfolding leaveAt
+leave-none n j xs h = rw (le-ltb 1 n h)
 
-pub length-remove : (k : ℕ) (xs : List Job) → k < length xs → suc (length (removeAt k xs)) ≡ length xs
-unfolding removeAt
-length-remove k [] h = absurd (not-suc-le-zero h)
-length-remove zero (x ∷ xs) h = refl
-length-remove (suc k) (x ∷ xs) h = ap suc (length-remove k xs (le-of-suc-le-suc h))
+pub replace-led : (n : ℕ) (j : Job) (xs : List Job) → 0 < n → ledIf true (slideAt (goesBefore j) n j 0 xs) ≡ replaceAt n j xs
+unfolding replaceAt
+replace-led n j xs h = rw (lt-ltb 0 n h)
 
-remove-packed : (k : ℕ) (xs : List Job) → length xs ≤ places → k < length xs → _≡_ {A = JobList} (record { jobs = closeAt k (pack xs .count) (pack xs .jobs); count = pack xs .count - 1 }) (pack (removeAt k xs))
-unfolding pack
-remove-packed k xs m h =
-    let f : places - length (removeAt k xs) ≡ suc (places - length xs) = omega (arith, length-remove k xs h) in
-    let p : closeAt k (length xs) (xs ++ replicate (places - length xs) blankJob) ≡ removeAt k xs ++ replicate (places - length (removeAt k xs)) blankJob = rw f (remove-padded k xs (places - length xs) h) in
-    let q : length xs - 1 ≡ length (removeAt k xs) = omega (arith, length-remove k xs h) in
-    λ i. record { jobs = p i; count = q i }
-
--- what `remove` makes
-pub remove-law : (l : JobList) (k : ℕ) → Shaped l → k < l .count → _≡_ {A = JobList} (record { jobs = closeAt k (l .count) (l .jobs); count = l .count - 1 }) (pack (removeAt k (view l)))
-remove-law l k s h =
-    let m : length (view l) ≤ places = omega (arith, view-length l s, s .small) in
-    let g : k < length (view l) = omega (arith, view-length l s) in
-    ap (λ (x : JobList). record { jobs = closeAt k (x .count) (x .jobs); count = x .count - 1 }) (s .blanks) ∙ remove-packed k (view l) m g
-
-pub remove-shaped : (l : JobList) (k : ℕ) → Shaped l → k < l .count → Shaped (pack (removeAt k (view l))) × (pack (removeAt k (view l)) .count < places)
-remove-shaped l k s h =
-    let g : k < length (view l) = omega (arith, view-length l s) in
-    let n : length (removeAt k (view l)) < places = omega (arith, length-remove k (view l) g, view-length l s, s .small) in
-    (pack-shaped (removeAt k (view l)) (omega arith), rw (count-pack (removeAt k (view l))) n)
+pub replace-none : (n : ℕ) (j : Job) (xs : List Job) → n ≤ 0 → slideAt (goesBefore j) n j 0 xs ≡ replaceAt n j xs
+unfolding replaceAt
+replace-none n j xs h = rw (le-ltb 0 n h)

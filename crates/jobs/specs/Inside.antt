@@ -1,40 +1,59 @@
 -- What the functions inside do with the array. No other crate's promise names it. Assumes nothing.
 use Prim.Native.Nat.{ℕ, zero, suc, _+_, _-_}
-use mathlib.Core.Bool.{cond}
+use mathlib.Core.Bool.{Bool, false, cond}
 use mathlib.Core.List.{List, [], _∷_, _++_}
-use lib.ListN.{take, drop, set}
+use lib.Dec.{ltb}
+use lib.ListN.{take, drop, set, getD}
 use Rattle.rules.specs.declared.Job.{Job}
 use Rattle.rules.specs.declared.Tick.{Tick}
 use Rattle.rules.specs.declared.Late.{Late}
 use Rattle.rules.specs.Late.{isPast}
-use Rattle.jobs.specs.Listed.{blankJob, goesBefore}
+use Rattle.jobs.specs.declared.JobList.{JobList}
+use Rattle.jobs.specs.declared.Aim.{Aim}
+use Rattle.jobs.specs.Listed.{blankJob, goesBefore, releasedJob}
 
--- the place of the first job that j goes before, or the place behind all
-unfoldable pub placeOf : Job → List Job → ℕ
-placeOf j [] = 0
-placeOf j (x ∷ xs) = cond (goesBefore j x) 0 (suc (placeOf j xs))
+-- a refused call works among no jobs, and puts the job in the first place where it stands
+abbrev pub aimOf : JobList → Job → Bool → Aim
+aimOf l j b = cond b (record { many = l .count; put = j }) (record { many = 0; put = getD (l .jobs) 0 blankJob })
 
--- c goes in front, each of n places goes one back, the last of them falls off
-unfoldable pub shove : ℕ → Job → List Job → List Job
-shove zero c xs = xs
-shove (suc n) c [] = []
-shove (suc n) c (x ∷ xs) = c ∷ shove n x xs
+-- ---- a new job
 
--- a job put at a place, the places from there to the end moved
-unfoldable pub openAt : ℕ → ℕ → Job → List Job → List Job
-openAt at end job jobs = take at jobs ++ shove (end - at) job (drop at jobs)
+-- the place behind the last of the first n jobs that j doesn't go before
+unfoldable pub behind : ℕ → Job → List Job → ℕ
+behind zero j xs = 0
+behind (suc n) j xs = cond (goesBefore j (getD xs n blankJob)) (behind n j xs) (suc n)
 
--- each of n places takes the next one's job, the last of them a blank
-unfoldable pub pull : ℕ → List Job → List Job
-pull zero xs = xs
-pull (suc n) [] = []
-pull (suc zero) (x ∷ xs) = blankJob ∷ xs
-pull (suc (suc n)) (x ∷ []) = x ∷ []
-pull (suc (suc n)) (x ∷ y ∷ xs) = y ∷ pull (suc n) (y ∷ xs)
+-- j at place p, what stood there and behind it, up to n, one place back
+abbrev pub openAt : ℕ → ℕ → Job → List Job → List Job
+openAt p n j xs = take p xs ++ j ∷ (drop p (take n xs) ++ drop (suc n) xs)
 
--- the job at a place taken out, the places from there to the end moved
-unfoldable pub closeAt : ℕ → ℕ → List Job → List Job
-closeAt at end jobs = take at jobs ++ pull (end - at) (drop at jobs)
+unfoldable pub enterAt : ℕ → Job → List Job → List Job
+enterAt n j xs = openAt (behind n j xs) n j xs
+
+-- ---- the first job leaves
+
+-- each of n places takes the next one's job, up to one that stops it; there j is put
+unfoldable pub slide : (Job → Bool) → ℕ → Job → List Job → List Job
+slide stop n j [] = []
+slide stop zero j (x ∷ xs) = j ∷ xs
+slide stop (suc n) j (x ∷ []) = j ∷ []
+slide stop (suc n) j (x ∷ y ∷ xs) = cond (stop y) (j ∷ y ∷ xs) (y ∷ slide stop n j (y ∷ xs))
+
+-- from place i on, among n jobs
+unfoldable pub slideAt : (Job → Bool) → ℕ → Job → ℕ → List Job → List Job
+slideAt stop n j i xs = take i xs ++ slide stop (n - (i + 1)) j (drop i xs)
+
+-- the job in the first place is released, where the condition holds
+abbrev pub ledIf : Bool → List Job → List Job
+ledIf b xs = cond b (set xs 0 (releasedJob (getD xs 0 blankJob))) xs
+
+unfoldable pub leaveAt : ℕ → Job → List Job → List Job
+leaveAt n j xs = ledIf (ltb 1 n) (slideAt (λ (x : Job). false) n j 0 xs)
+
+unfoldable pub replaceAt : ℕ → Job → List Job → List Job
+replaceAt n j xs = ledIf (ltb 0 n) (slideAt (goesBefore j) n j 0 xs)
+
+-- ---- late jobs
 
 -- a late job: its task goes behind those so far, unless it was late before
 unfoldable pub lateStep : Tick → Late → Job → Late

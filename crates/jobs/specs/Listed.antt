@@ -1,7 +1,7 @@
 -- Document 01, "Ticks and jobs": the list of pending jobs as a plain list. `view` reads it off a JobList, `pack` lays it out in one. Assumes nothing.
 use Prim.Native.Nat.{ℕ, zero, suc, _-_, _≤_}
 use mathlib.Core.Path.{_≡_}
-use mathlib.Core.Bool.{Bool, true, false, not, _&&_}
+use mathlib.Core.Bool.{Bool, true, false, not, _&&_, cond}
 use mathlib.Core.List.{List, [], _∷_, _++_, map}
 use lib.ListN.{length, take, replicate}
 use lib.Dec.{ltb, eqb}
@@ -13,6 +13,8 @@ use Rattle.rules.specs.Words.{places, countBy, only, insertBy, Pairs}
 use Rattle.rules.specs.Late.{isPast}
 use Rattle.rules.specs.Layer.{inPlaces}
 use Rattle.jobs.specs.declared.JobList.{JobList}
+use Rattle.jobs.specs.declared.Lead.{Lead}
+use Rattle.jobs.specs.declared.Lead.the-variants.{NoJob, Leads}
 
 abbrev pub blankJob : Job
 blankJob = record { due = record { 0 = 0 }; task = 0; phase = Delayed }
@@ -53,12 +55,6 @@ isFirstIn j (x ∷ xs) = goesBefore j x
 unfoldable pub insertDue : Job → List Job → List Job
 insertDue j xs = insertBy goesBefore j xs
 
--- the job at a place leaves
-unfoldable pub removeAt : ℕ → List Job → List Job
-removeAt n [] = []
-removeAt zero (x ∷ xs) = xs
-removeAt (suc n) (x ∷ xs) = x ∷ removeAt n xs
-
 -- the first job is released
 abbrev pub releasedJob : Job → Job
 releasedJob x = record { due = x .due; task = x .task; phase = Released }
@@ -77,6 +73,17 @@ pendingOf t xs = countBy (λ (x : Job). eqb t (x .task)) xs
 unfoldable pub firstIn : List Job → Job
 firstIn [] = blankJob
 firstIn (x ∷ xs) = x
+
+-- the job that leads
+abbrev pub leadOf : List Job → Lead
+leadOf [] = NoJob
+leadOf (x ∷ xs) = Leads x
+
+-- and the one that leads where a new job enters
+abbrev pub leadWith : Bool → Job → Lead → Lead
+leadWith false j x = x
+leadWith true j NoJob = Leads j
+leadWith true j (Leads x) = cond (goesBefore j x) (Leads j) (Leads x)
 
 -- ---- newly late jobs
 

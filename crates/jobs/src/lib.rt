@@ -1,11 +1,12 @@
 // The list of pending jobs by value: an array of jobs in the order of the list, and a count.
 ghost use mathlib.Core.Path.{_≡_};
 ghost use mathlib.Core.List.{[]};
+ghost use mathlib.Core.Bool.{true, cond};
 ghost use Prim.Native.Nat.{_≤_, _<_};
 ghost use lib.ListN.{drop};
 ghost use Rattle.rules.specs.Words.{places};
-ghost use Rattle.jobs.specs.Listed.{blankJob, goesBefore, view, pack, Shaped, Sorted, isFirstIn, insertDue, removeAt, pendingOf, firstIn, releaseFirst, lateIn, newlyLateIn};
-ghost use Rattle.jobs.specs.Inside.{openAt, closeAt, placeOf, lateStep};
+ghost use Rattle.jobs.specs.Listed.{blankJob, goesBefore, view, pack, Shaped, Sorted, isFirstIn, insertDue, releasedJob, releaseFirst, leadOf, leadWith, pendingOf, firstIn, lateIn, newlyLateIn};
+ghost use Rattle.jobs.specs.Inside.{aimOf, enterAt, leaveAt, replaceAt, lateStep};
 use rules::Job;
 use rules::Late;
 use rules::PLACES;
@@ -16,6 +17,12 @@ use rules::Tick;
 pub struct JobList {
     pub jobs: [Job; PLACES],
     pub count: usize,
+}
+
+// Which job leads a list: none, or the first.
+pub enum Lead {
+    NoJob,
+    Leads(Job),
 }
 
 fn blank() -> Job
@@ -42,40 +49,6 @@ pub fn empty() -> JobList
     }
 }
 
-// A job put at a place: those from there on go one place back, and what stood in the last place before the end falls off.
-fn opened(jobs: [Job; PLACES], at: usize, end: usize, job: Job) -> [Job; PLACES]
-    requires { ⌜ (at ≤ end) × (end ≤ places) ⌝ }
-    ensures { λ r. ⌜ r ≡ openAt at end job jobs ⌝ }
-{
-    let mut out = jobs;
-    let mut carry = job;
-    let mut i = at;
-    while i < end {
-        let next = out[i];
-        out[i] = carry;
-        carry = next;
-        i += 1;
-    }
-    out
-}
-
-// The job at a place taken out: those behind it go one place up, and the last place before the end is blank.
-fn closed(jobs: [Job; PLACES], at: usize, end: usize) -> [Job; PLACES]
-    requires { ⌜ (at < end) × (end ≤ places) ⌝ }
-    ensures { λ r. ⌜ r ≡ closeAt at end jobs ⌝ }
-{
-    let mut out = jobs;
-    let last = end - 1;
-    let mut i = at;
-    while i < last {
-        let next = out[i + 1];
-        out[i] = next;
-        i += 1;
-    }
-    out[last] = blank();
-    out
-}
-
 // The order of the list: whether a new job goes before one that is there. On equal deadlines it goes behind.
 fn goes_before(job: Job, other: Job) -> bool
     ensures { λ r. ⌜ r ≡ goesBefore job other ⌝ }
@@ -83,21 +56,190 @@ fn goes_before(job: Job, other: Job) -> bool
     job.due.0 < other.due.0
 }
 
-// The place of the first job that a new one goes before, or the place behind all.
-fn place(list: JobList, job: Job) -> usize
-    requires { ⌜ Shaped list ⌝ }
-    ensures { λ r. ⌜ r ≡ placeOf job (view list) ⌝ }
+// ---- what changes a list: nothing is tested behind a change, so that the array is copied once in and once out
+
+// Where a call works in the list: among how many jobs, and what it puts there.
+struct Aim {
+    many: usize,
+    put: Job,
+}
+
+// A refused call works among no jobs, and puts the job in the first place where it stands.
+fn aimed(list: JobList, job: Job, accepted: bool) -> Aim
+    ensures { λ r. ⌜ r ≡ aimOf list job accepted ⌝ }
 {
-    let n = list.count;
-    let mut i = 0;
-    while i < n {
-        let other = list.jobs[i];
-        if goes_before(job, other) {
-            return i;
+    if accepted {
+        return Aim {
+            many: list.count,
+            put: job,
+        };
+    }
+    let first = list.jobs[0];
+    Aim {
+        many: 0,
+        put: first,
+    }
+}
+
+// A new job: those that it goes before go one place back, the last of them first.
+fn entered(jobs: [Job; PLACES], aim: Aim) -> [Job; PLACES]
+    requires { ⌜ aim .many < places ⌝ }
+    ensures { λ r. ⌜ r ≡ enterAt (aim .many) (aim .put) jobs ⌝ }
+{
+    let mut out = jobs;
+    let job = aim.put;
+    let mut i = aim.many;
+    while 0 < i {
+        let other = out[i - 1];
+        if !goes_before(job, other) {
+            break;
         }
+        out[i] = other;
+        i -= 1;
+    }
+    out[i] = job;
+    out
+}
+
+// A job is released.
+fn released(job: Job) -> Job
+    ensures { λ r. ⌜ r ≡ releasedJob job ⌝ }
+{
+    let due = job.due;
+    Job {
+        due,
+        task: job.task,
+        phase: Phase::Released,
+    }
+}
+
+// The first job leaves: the others go one place up, and the new first one is released.
+fn left(jobs: [Job; PLACES], aim: Aim) -> [Job; PLACES]
+    requires { ⌜ aim .many ≤ places ⌝ }
+    ensures { λ r. ⌜ r ≡ leaveAt (aim .many) (aim .put) jobs ⌝ }
+{
+    let mut out = jobs;
+    let n = aim.many;
+    let mut i = 0;
+    while i + 1 < n {
+        let next = out[i + 1];
+        out[i] = next;
         i += 1;
     }
-    n
+    let put = aim.put;
+    out[i] = put;
+    if 1 < n {
+        let first = out[0];
+        out[0] = released(first);
+    }
+    out
+}
+
+// The first job leaves and a new one comes: those that it doesn't go before go one place up, and the new first one is released.
+fn replaced(jobs: [Job; PLACES], aim: Aim) -> [Job; PLACES]
+    requires { ⌜ aim .many ≤ places ⌝ }
+    ensures { λ r. ⌜ r ≡ replaceAt (aim .many) (aim .put) jobs ⌝ }
+{
+    let mut out = jobs;
+    let n = aim.many;
+    let job = aim.put;
+    let mut i = 0;
+    while i + 1 < n {
+        let next = out[i + 1];
+        if goes_before(job, next) {
+            break;
+        }
+        out[i] = next;
+        i += 1;
+    }
+    out[i] = job;
+    if 0 < n {
+        let first = out[0];
+        out[0] = released(first);
+    }
+    out
+}
+
+// A new job goes in at its place. A refused call leaves the list as it is; so below.
+pub fn insert(list: JobList, job: Job, accepted: bool) -> JobList
+    requires { ⌜ Shaped list × Sorted (view list) × (accepted ≡ true → list .count < places) ⌝ }
+    ensures { λ r. ⌜ r ≡ pack (cond accepted (insertDue job (view list)) (view list)) ⌝ }
+{
+    let aim = aimed(list, job, accepted);
+    let jobs = list.jobs;
+    let n = list.count;
+    let count = if accepted { n + 1 } else { n };
+    JobList {
+        jobs: entered(jobs, aim),
+        count,
+    }
+}
+
+// The first job leaves, and the new first one is released.
+pub fn remove_first(list: JobList, accepted: bool) -> JobList
+    requires { ⌜ Shaped list × (accepted ≡ true → 0 < list .count) ⌝ }
+    ensures { λ r. ⌜ r ≡ pack (cond accepted (releaseFirst (drop 1 (view list))) (view list)) ⌝ }
+{
+    let aim = aimed(list, blank(), accepted);
+    let jobs = list.jobs;
+    let n = list.count;
+    let count = if accepted { n - 1 } else { n };
+    JobList {
+        jobs: left(jobs, aim),
+        count,
+    }
+}
+
+// The first job leaves, a new one goes in at its place, and the new first one is released.
+pub fn replace_first(list: JobList, job: Job, accepted: bool) -> JobList
+    requires { ⌜ Shaped list × (accepted ≡ true → 0 < list .count) ⌝ }
+    ensures { λ r. ⌜ r ≡ pack (cond accepted (releaseFirst (insertDue job (drop 1 (view list)))) (view list)) ⌝ }
+{
+    let aim = aimed(list, job, accepted);
+    let jobs = list.jobs;
+    JobList {
+        jobs: replaced(jobs, aim),
+        count: list.count,
+    }
+}
+
+// ---- what is asked of a list
+
+// The job that leads; where the first job leaves, the one behind it.
+pub fn front(list: JobList, leaves: bool) -> Lead
+    ensures { λ r. ⌜ r ≡ leadOf (cond leaves (drop 1 (view list)) (view list)) ⌝ }
+{
+    let n = list.count;
+    if leaves {
+        if n <= 1 {
+            return Lead::NoJob;
+        }
+        let job = list.jobs[1];
+        return Lead::Leads(job);
+    }
+    if n == 0 {
+        return Lead::NoJob;
+    }
+    let job = list.jobs[0];
+    Lead::Leads(job)
+}
+
+// The job that leads where a new one enters.
+pub fn front_with(lead: Lead, job: Job, enters: bool) -> Lead
+    ensures { λ r. ⌜ r ≡ leadWith enters job lead ⌝ }
+{
+    if !enters {
+        return lead;
+    }
+    match lead {
+        Lead::NoJob => Lead::Leads(job),
+        Lead::Leads(other) => {
+            if goes_before(job, other) {
+                return Lead::Leads(job);
+            }
+            Lead::Leads(other)
+        }
+    }
 }
 
 // Whether a new job would be first.
@@ -109,33 +251,6 @@ pub fn is_first(list: JobList, job: Job) -> bool
     }
     let other = list.jobs[0];
     goes_before(job, other)
-}
-
-// A new job goes in at its place.
-pub fn insert(list: JobList, job: Job) -> JobList
-    requires { ⌜ Shaped list × (list .count < places) ⌝ }
-    ensures { λ r. ⌜ r ≡ pack (insertDue job (view list)) ⌝ }
-{
-    let at = place(list, job);
-    let jobs = list.jobs;
-    let count = list.count + 1;
-    JobList {
-        jobs: opened(jobs, at, count, job),
-        count,
-    }
-}
-
-// The job at a place leaves.
-pub fn remove(list: JobList, at: usize) -> JobList
-    requires { ⌜ Shaped list × (at < list .count) ⌝ }
-    ensures { λ r. ⌜ r ≡ pack (removeAt at (view list)) ⌝ }
-{
-    let n = list.count;
-    let jobs = list.jobs;
-    JobList {
-        jobs: closed(jobs, at, n),
-        count: n - 1,
-    }
 }
 
 // How many jobs of a task are pending from a place on.
@@ -164,28 +279,6 @@ pub fn first(list: JobList) -> Job
         return blank();
     }
     list.jobs[0]
-}
-
-// The first job is released.
-pub fn release_first(list: JobList) -> JobList
-    requires { ⌜ Shaped list ⌝ }
-    ensures { λ r. ⌜ r ≡ pack (releaseFirst (view list)) ⌝ }
-{
-    let n = list.count;
-    let mut jobs = list.jobs;
-    let first = jobs[0];
-    let due = first.due;
-    let phase = if n == 0 {
-        Phase::Delayed
-    } else {
-        Phase::Released
-    };
-    jobs[0] = Job {
-        due,
-        task: first.task,
-        phase,
-    };
-    JobList { jobs, count: n }
 }
 
 // A late job: its task goes behind those so far, unless it was late at the last call.

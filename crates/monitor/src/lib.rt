@@ -1,5 +1,6 @@
 // Monitoring: what is counted of each task.
 ghost use mathlib.Core.Path.{_≡_};
+ghost use mathlib.Core.Bool.{cond};
 ghost use Prim.Native.Nat.{max};
 ghost use Rattle.rules.specs.Counts.{noTallies, up, lateMore, endedMore, onTask, withLate};
 ghost use Rattle.monitor.specs.Tallies.{counts, tasksOf};
@@ -92,15 +93,17 @@ pub fn with_late(monitor: Monitor, late: Late) -> Monitor
     Monitor { tallies }
 }
 
-// A job of a task ended, with its response.
-pub fn with_ended(monitor: Monitor, task: u8, response: u64) -> Monitor
-    ensures { λ r. ⌜ r ≡ counts (onTask task (endedMore response) (monitor .tallies)) ⌝ }
+// A job of a task ended, with its response; where none did, nothing is counted.
+pub fn with_ended(monitor: Monitor, ends: bool, task: u8, response: u64) -> Monitor
+    ensures { λ r. ⌜ r ≡ counts (cond ends (onTask task (endedMore response) (monitor .tallies)) (monitor .tallies)) ⌝ }
 {
     let mut tallies = monitor.tallies;
     let t = task as usize;
-    if t < PLACES {
-        let tally = tallies[t];
-        tallies[t] = ended_more(tally, response);
+    if ends {
+        if t < PLACES {
+            let tally = tallies[t];
+            tallies[t] = ended_more(tally, response);
+        }
     }
     Monitor { tallies }
 }

@@ -15,14 +15,11 @@ use Rattle.rules.specs.Table.{Table, size, noLine, lineOf, greatest, deadlineOf
 use Rattle.rules.specs.Jobs.{Job}
 use Rattle.rules.specs.Layer.{running, viewed, result}
 use Rattle.rules.specs.Run.{Head, headNext, Reached}
-use Rattle.rules.specs.Statement.{firstTask}
 use Rattle.rules.proofs.Order.{Higher}
 use Rattle.rules.proofs.Allowed.{allowed}
 use Rattle.rules.proofs.Reached.{reached-next, reached-good, reached-room, reached-task, reached-keeps}
-use Rattle.jobs.specs.Listed.{view, pack, Shaped, Sorted, removeAt}
-use Rattle.jobs.specs.declared.JobList.{JobList}
+use Rattle.jobs.specs.Listed.{view, pack, Shaped, Sorted}
 use Rattle.jobs.proofs.Laid.{view-pack, pack-shaped}
-use Rattle.jobs.proofs.Shifts.{remove-shaped}
 use Rattle.scheduler.specs.declared.State.{State}
 use Rattle.scheduler.specs.declared.Stepped.{Stepped}
 use Rattle.scheduler.specs.State.{kept, stateOf, Handed, told, stepOf}
@@ -31,6 +28,7 @@ use Rattle.scheduler.proofs.Back.{line-is, step-is}
 use Rattle.scheduler.proofs.Parts.{length-kept, length-tasks, sorted-is}
 use Rattle.scheduler.proofs.Rows.{refusalIn, rows-are}
 use Rattle.scheduler.proofs.Whole.{acceptedIn, refused-is, accepted-is}
+use Rattle.rules.specs.Statement.{firstTask}
 
 -- what holds of every table and head that is reached holds of every state that was handed out
 pub handed-by : (P : State → Type 0) → ((T : Table) (h : Head) → Reached T h → P (stateOf T h)) → (s : State) → Handed s → P s
@@ -133,7 +131,3 @@ chain-ends s d t n = handed-by (λ (z : State). refusalIn z (Chain t n) ≡ 0 �
     ends T h r q =
         let a = allowed T (viewed T (h .board)) (Chain t n) (sym (rows-are T h r (Chain t n)) ∙ q) in
         ends-of t T h r (a .runs) (a .time .not-over)
-
--- the others, once the first job has left
-pub others-shaped : (s : State) → Handed s → (t : Tick) → Ends s t → (l : JobList) → l ≡ pack (removeAt 0 (view (s .list))) → Shaped l × (l .count < places)
-others-shaped s d t a l e = subst⁻¹ (λ (z : JobList). Shaped z × (z .count < places)) e (remove-shaped (s .list) 0 (handed-shaped s d) (a .some-one))

@@ -7,6 +7,7 @@ pub mod Whole
 -- what the functions' proofs cite
 pub mod Handed
 pub mod Cases
+pub mod Decided
 pub mod Checking
 pub mod Claims
 mod Outcomes

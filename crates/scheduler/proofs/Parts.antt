@@ -25,10 +25,9 @@ use Rattle.rules.proofs.Invariant.{Sound, Ahead, Ordered}
 use Rattle.rules.proofs.Marks.{Marked}
 use Rattle.ticks.specs.Ticks.{responseBy}
 use Rattle.table.specs.Lines.{packed, lineAt}
-use Rattle.jobs.specs.Listed.{pack, goesBefore, Sorted, isFirstIn, insertDue, removeAt, firstIn, releaseFirst, pendingOf, isNewlyLate}
+use Rattle.jobs.specs.Listed.{pack, goesBefore, Sorted, isFirstIn, insertDue, firstIn, releaseFirst, pendingOf, isNewlyLate}
 use Rattle.monitor.specs.Tallies.{counts}
-use Rattle.scheduler.specs.declared.Change.{Change}
-use Rattle.scheduler.specs.Steps.{choiceIn, jobAs, enteredAs, enteredIn, settleAs, settleCall, settledIn, chainedIn, responseIn, talliedIn}
+use Rattle.scheduler.specs.Steps.{Change, choiceIn, jobAs, enteredAs, enteredIn, settleAs, settledIn, chainedIn, responseIn, talliedIn}
 use Rattle.scheduler.specs.State.{kept}
 use Rattle.scheduler.proofs.Back.{line-is}
 
@@ -54,11 +53,6 @@ pub drop-is : (l : List Job) → drop 1 (map kept l) ≡ map kept (rest-of l)
 drop-is [] = refl
 drop-is (j ∷ l) = refl
 
-pub remove-is : (l : List Job) → removeAt 0 (map kept l) ≡ map kept (rest-of l)
-unfolding removeAt
-remove-is [] = refl
-remove-is (j ∷ l) = refl
-
 -- ---- the order, the one place where the code's test meets the rule-book's
 
 pub insert-is : (T : Table) (j : Job) (l : List Job) → insertDue (kept j) (map kept l) ≡ map kept (insert (before T) j l)
@@ -77,7 +71,6 @@ sorted-is T P l o = pairs-over (λ j k. Ahead T P (bare j) k) (λ (x y : Entry).
 -- ---- what runs, what is late
 
 pub choice-is : (l : List Job) → choiceIn (map kept l) ≡ shown (first-of l)
-unfolding choiceIn
 choice-is [] = refl
 choice-is (j ∷ l) = refl
 
@@ -113,7 +106,7 @@ entered-is T j l = ap (enteredAs (j .task) (j .due) (map kept l)) (first-is T j 
     go false = ap (λ (z : List Entry). record { list = pack z; call = NoCall }) (insert-is T (newJob Delayed j) l)
 
 pub settled-is : (l : List Job) → settledIn (map kept l) ≡ changeOf (settled l)
-unfolding settledIn settleCall releaseFirst
+unfolding settledIn releaseFirst
 settled-is [] = refl
 settled-is (j ∷ l) = go (j .phase) refl
   where

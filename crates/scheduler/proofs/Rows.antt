@@ -15,7 +15,6 @@ use Rattle.rules.specs.Jobs.{Job}
 use Rattle.rules.specs.Calls.{badTick, isIdle, badTask, outOfReach, refusal}
 use Rattle.rules.specs.Layer.{running, without, result}
 use Rattle.rules.specs.Run.{Head, Reached}
-use Rattle.rules.specs.Statement.{firstTask}
 use Rattle.rules.proofs.Reached.{reached-task, reached-leaves}
 use Rattle.ticks.specs.Ticks.{sum, isBeyond}
 use Rattle.ticks.proofs.Laws.{sum-beyond}
@@ -24,13 +23,14 @@ use Rattle.jobs.specs.Listed.{pack, pendingOf}
 use Rattle.jobs.proofs.Laid.{view-pack, count-pack}
 use Rattle.scheduler.specs.declared.State.{State}
 use Rattle.scheduler.specs.State.{kept, stateOf}
-use Rattle.scheduler.specs.Steps.{askedOf, activateRefusal, terminateRefusal, chainRefusal}
+use Rattle.scheduler.specs.Steps.{askedOf, tickRefusal, activateRefusal, terminateRefusal, chainRefusal}
 use Rattle.scheduler.proofs.Back.{line-is}
 use Rattle.scheduler.proofs.Parts.{length-tasks, pending-is, drop-is}
+use Rattle.rules.specs.Statement.{firstTask}
 
 -- the number that the code finds for a call
 abbrev pub refusalIn : State → Call → ℕ
-refusalIn s (Wait t) = 8 if badTick (s .last) t else 0
+refusalIn s (Wait t) = tickRefusal (s .last) t
 refusalIn s (Activate t n) = activateRefusal (s .last) (s .table .count) (s .list) (askedOf (s .table) t n)
 refusalIn s (Terminate t) = terminateRefusal (s .last) (s .list .count) t
 refusalIn s (Chain t n) = chainRefusal (s .last) (s .table .count) (s .list) (askedOf (s .table) t n)

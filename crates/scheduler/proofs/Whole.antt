@@ -5,7 +5,7 @@ use mathlib.Core.List.{List, [], _∷_, map}
 use mathlib.Core.Bool.{true}
 use mathlib.Core.Option.{Option, some, none}
 use native.Mathlib.Omega.{arith}
-use lib.ListN.{length, replicate}
+use lib.ListN.{length, replicate, drop}
 use lib.Seq.{take-append-seam}
 use Rattle.rules.specs.declared.Job.{Job as Entry}
 use Rattle.rules.specs.declared.Tick.{Tick}
@@ -23,7 +23,6 @@ use Rattle.rules.specs.Late.{newlyLate, markedAt}
 use Rattle.rules.specs.Layer.{Board, running, runningJob, choice, shown, without, tasks, result, marked, moves, done, viewed, inPlaces}
 use Rattle.rules.specs.Counts.{withLate, withEnded, ending}
 use Rattle.rules.specs.Run.{Head, headNext, Reached}
-use Rattle.rules.specs.Statement.{firstTask, NothingRuns}
 use Rattle.rules.proofs.Invariant.{Sound}
 use Rattle.rules.proofs.Moves.{without-marked}
 use Rattle.rules.proofs.First.{first-of}
@@ -32,24 +31,24 @@ use Rattle.rules.proofs.Reached.{reached-good, reached-marked, reached-next, re
 use Rattle.ticks.specs.Ticks.{sum}
 use Rattle.ticks.proofs.Laws.{sum-near}
 use Rattle.table.specs.Lines.{packed}
-use Rattle.jobs.specs.Listed.{view, pack, removeAt, lateIn, newlyLateIn}
+use Rattle.jobs.specs.Listed.{view, pack, lateIn, newlyLateIn}
 use Rattle.jobs.proofs.Laid.{view-pack}
 use Rattle.monitor.specs.declared.Monitor.{Monitor}
 use Rattle.monitor.specs.Tallies.{counts, tasksOf}
 use Rattle.scheduler.specs.declared.State.{State}
 use Rattle.scheduler.specs.declared.Stepped.{Stepped}
-use Rattle.scheduler.specs.declared.Change.{Change}
 use Rattle.scheduler.specs.State.{kept, stateOf, told}
-use Rattle.scheduler.specs.Steps.{choiceIn, askedOf, enteredIn, settledIn, chainedIn, lateCounted, talliedIn, refusedOf, acceptedOf}
+use Rattle.scheduler.specs.Steps.{Change, choiceIn, askedOf, enteredIn, settledIn, chainedIn, lateCounted, talliedIn, refusedOf, acceptedOf}
 use Rattle.scheduler.proofs.Back.{line-is}
-use Rattle.scheduler.proofs.Parts.{kept-marked, remove-is, choice-is, late-is, changeOf, entered-is, settled-is, chained-is, ended-is}
+use Rattle.scheduler.proofs.Parts.{kept-marked, drop-is, choice-is, late-is, changeOf, entered-is, settled-is, chained-is, ended-is}
+use Rattle.rules.specs.Statement.{firstTask, NothingRuns}
 
 -- what the code makes of an accepted call
 abbrev pub changeIn : State → Call → Change
 changeIn s (Wait t) = record { list = s .list; call = NoCall }
 changeIn s (Activate t n) = enteredIn n (askedOf (s .table) t n .due) (view (s .list))
-changeIn s (Terminate t) = settledIn (removeAt 0 (view (s .list)))
-changeIn s (Chain t n) = chainedIn n (askedOf (s .table) t n .due) (removeAt 0 (view (s .list)))
+changeIn s (Terminate t) = settledIn (drop 1 (view (s .list)))
+changeIn s (Chain t n) = chainedIn n (askedOf (s .table) t n .due) (drop 1 (view (s .list)))
 
 abbrev pub lateOf : State → Tick → Late
 lateOf s t = newlyLateIn (s .last) t (view (s .list))
@@ -126,9 +125,9 @@ module _ (T : Table) (h : Head) (r : Reached T h) where
   marked-list : (t : Tick) → view (pack (map kept (b .jobs))) ≡ map kept (map (markedAt t) (b .jobs))
   marked-list t = view-pack (map kept (b .jobs)) ∙ sym (kept-marked t (b .jobs))
 
-  marked-others : (t : Tick) → removeAt 0 (view (pack (map kept (b .jobs)))) ≡ map kept (without (running T b) (map (markedAt t) (b .jobs)))
+  marked-others : (t : Tick) → drop 1 (view (pack (map kept (b .jobs)))) ≡ map kept (without (running T b) (map (markedAt t) (b .jobs)))
   marked-others t =
-      ap (removeAt 0) (view-pack (map kept (b .jobs))) ∙ remove-is (b .jobs) ∙ ap (map kept) (sym (reached-leaves T h r))
+      ap (drop 1) (view-pack (map kept (b .jobs))) ∙ drop-is (b .jobs) ∙ ap (map kept) (sym (reached-leaves T h r))
       ∙ sym (kept-marked t (without (running T b) (b .jobs))) ∙ ap (map kept) (sym (without-marked t (running T b) (b .jobs)))
 
   change-same : (e : Call) → Allowed T (viewed T b) e → changeIn (stateOf T h) e ≡ changeOf (moves T (marked (tickOf e) b) e)

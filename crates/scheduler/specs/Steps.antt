@@ -6,6 +6,7 @@ use lib.Dec.{leb, eqb}
 use lib.ListN.{drop}
 use Rattle.rules.specs.declared.Tick.{Tick}
 use Rattle.rules.specs.declared.Job.{Job as Entry}
+use Rattle.rules.specs.declared.Line.{Line}
 use Rattle.rules.specs.declared.Phase.{Phase}
 use Rattle.rules.specs.declared.Phase.the-variants.{Delayed, Released}
 use Rattle.rules.specs.declared.KernelCall.{KernelCall}
@@ -20,13 +21,14 @@ use Rattle.ticks.specs.Ticks.{sum, isBeyond, responseBy}
 use Rattle.table.specs.declared.TaskTable.{TaskTable}
 use Rattle.table.specs.Lines.{lineAt}
 use Rattle.jobs.specs.declared.JobList.{JobList}
-use Rattle.jobs.specs.Listed.{view, pack, isFirstIn, insertDue, firstIn, releaseFirst, pendingOf, lateIn}
+use Rattle.jobs.specs.declared.Lead.{Lead}
+use Rattle.jobs.specs.declared.Lead.the-variants.{NoJob, Leads}
+use Rattle.jobs.specs.Listed.{view, pack, isFirstIn, insertDue, firstIn, releaseFirst, leadOf, pendingOf, lateIn}
 use Rattle.monitor.specs.declared.Monitor.{Monitor}
 use Rattle.monitor.specs.Tallies.{counts, tasksOf}
 use Rattle.scheduler.specs.declared.State.{State}
 use Rattle.scheduler.specs.declared.Stepped.{Stepped}
 use Rattle.scheduler.specs.declared.Activation.{Activation}
-use Rattle.scheduler.specs.declared.Change.{Change}
 
 -- no job; tick, counts and greatest responses 0
 abbrev pub freshOf : TaskTable → State
@@ -34,11 +36,17 @@ freshOf t = record { table = t; last = record { 0 = 0 }; list = pack []; monitor
 
 -- ---- the refusals
 
--- an activation of task n: the limit of its line, and when it would be due
-unfoldable pub askedOf : TaskTable → Tick → ℕ → Activation
-askedOf t at n = record { at = at; task = n; limit = (lineAt (t .lines) n) .limit; due = sum at ((lineAt (t .lines) n) .deadline) }
+-- an activation of task n, whose line is x: its limit, and when it would be due
+abbrev pub askedBy : Line → Tick → ℕ → Activation
+askedBy x at n = record { at = at; task = n; limit = x .limit; due = sum at (x .deadline) }
 
--- the rows of activate, terminate and chain; the first job is the one that ends
+unfoldable pub askedOf : TaskTable → Tick → ℕ → Activation
+askedOf t at n = askedBy (lineAt (t .lines) n) at n
+
+-- the rows of tick, activate, terminate and chain; the first job is the one that ends
+abbrev pub tickRefusal : Tick → Tick → ℕ
+tickRefusal last at = 8 if badTick last at else 0
+
 unfoldable pub activateRefusal : Tick → ℕ → JobList → Activation → ℕ
 activateRefusal last lines l new =
     8 if badTick last (new .at)
@@ -62,10 +70,18 @@ chainRefusal last lines l new =
 
 -- ---- what moves
 
--- the first job runs
-unfoldable pub choiceIn : List Entry → Choice
-choiceIn [] = Idle
-choiceIn (x ∷ xs) = Runs (x .task) (x .due)
+-- the list after an accepted call, and the kernel call made
+pub record Change : Type 0 where
+  pub list : JobList
+  pub call : KernelCall
+
+-- the job that leads runs
+abbrev pub choiceOf : Lead → Choice
+choiceOf NoJob = Idle
+choiceOf (Leads x) = Runs (x .task) (x .due)
+
+abbrev pub choiceIn : List Entry → Choice
+choiceIn xs = choiceOf (leadOf xs)
 
 -- a new job
 abbrev pub jobAs : ℕ → Tick → Phase → Entry
@@ -91,12 +107,12 @@ abbrev pub settleAs : Phase → ℕ → KernelCall
 settleAs Delayed n = ChainTask n
 settleAs Released n = TerminateTask
 
-unfoldable pub settleCall : List Entry → KernelCall
-settleCall [] = TerminateTask
-settleCall (x ∷ xs) = settleAs (x .phase) (x .task)
+abbrev pub settleOf : Lead → KernelCall
+settleOf NoJob = TerminateTask
+settleOf (Leads x) = settleAs (x .phase) (x .task)
 
 unfoldable pub settledIn : List Entry → Change
-settledIn xs = record { list = pack (releaseFirst xs); call = settleCall xs }
+settledIn xs = record { list = pack (releaseFirst xs); call = settleOf (leadOf xs) }
 
 -- chain: the new job is inserted, then as for terminate
 unfoldable pub chainedIn : ℕ → Tick → List Entry → Change

@@ -1,21 +1,26 @@
 // The scheduler by value: the check that hands out a state, and the calls. Each promises what the rule-book gives.
 ghost use mathlib.Core.Path.{_≡_};
-ghost use Prim.Native.Nat.{_≤_, _<_};
+ghost use Prim.Native.Nat.{_≤_};
+ghost use mathlib.Core.Bool.{true, cond};
 ghost use Rattle.rules.specs.declared.Call.the-variants.{Wait, Activate, Terminate, Chain};
-ghost use Rattle.jobs.specs.Listed.{view, Shaped};
-ghost use Rattle.rules.specs.Words.{places};
+ghost use Rattle.rules.specs.declared.Phase.the-variants.{Delayed};
+ghost use Rattle.rules.specs.declared.KernelCall.the-variants.{NoCall};
+ghost use lib.Dec.{eqb};
+ghost use Rattle.ticks.specs.Ticks.{responseBy};
+ghost use Rattle.jobs.specs.Listed.{Shaped};
 ghost use Rattle.rules.specs.Table.{greatest};
-ghost use Rattle.scheduler.specs.Steps.{freshOf, choiceIn, askedOf, activateRefusal, terminateRefusal, chainRefusal, entryPhase, entryCall, enteredIn, settleCall, settledIn, chainedIn, Short, responseIn, lateCounted, talliedIn, refusedOf, acceptedOf};
+ghost use Rattle.scheduler.specs.Steps.{freshOf, choiceOf, askedBy, tickRefusal, activateRefusal, terminateRefusal, chainRefusal, jobAs, entryPhase, entryCall, settleOf};
 ghost use Rattle.scheduler.specs.State.{Handed, CheckGives, CallGives};
 ghost use Rattle.scheduler.specs.Claims.{Claims};
 use jobs::JobList;
+use jobs::Lead;
 use monitor::Monitor;
 use rules::Answer;
 use rules::Call;
 use rules::Choice;
 use rules::Job;
 use rules::KernelCall;
-use rules::Late;
+use rules::Line;
 use rules::PLACES;
 use rules::Phase;
 use rules::Tick;
@@ -50,12 +55,6 @@ struct Activation {
     due: Tick,
 }
 
-// The list after a call, and the kernel call made.
-struct Change {
-    list: JobList,
-    call: KernelCall,
-}
-
 // ---- the check
 
 // The check of a task table: a fresh state is handed out if it gives 0.
@@ -87,24 +86,33 @@ fn fresh(table: TaskTable) -> State
     }
 }
 
-// ---- the calls
+// ---- the calls: first all that is answered is decided, on numbers; then the list and the tallies are changed. A refused call goes the same way, and changes nothing.
 
 // Tick: time moves; no kernel call.
 pub fn tick(s: State, at: Tick) -> Stepped
     requires { ⌜ Handed s ⌝ }
     ensures { λ r. ⌜ CallGives s (Wait at) r ⌝ }
 {
-    if ticks::bad_tick(s.last, at) {
-        return refused(s, 8);
-    }
-    let late = jobs::newly_late(s.list, s.last, at);
-    let monitor = monitor::with_late(s.monitor, late);
-    let list = s.list;
-    let change = Change {
-        list,
+    let refusal = tick_refusal(s.last, at);
+    let accepted = is_accepted(refusal);
+    let now = moved(s.last, at, accepted);
+    let late = jobs::newly_late(s.list, s.last, now);
+    let lead = jobs::front(s.list, false);
+    let answer = Answer {
+        result: refusal,
+        running: running(lead),
         call: KernelCall::NoCall,
+        late,
     };
-    accepted(s.table, at, late, monitor, change)
+    let table = s.table;
+    let list = s.list;
+    let state = State {
+        table,
+        last: now,
+        list,
+        monitor: monitor::with_late(s.monitor, late),
+    };
+    Stepped { state, answer }
 }
 
 // Activate: a new job of the task goes into the list, and is released if it is first.
@@ -112,15 +120,29 @@ pub fn activate(s: State, at: Tick, task: u8) -> Stepped
     requires { ⌜ Handed s ⌝ }
     ensures { λ r. ⌜ CallGives s (Activate at task) r ⌝ }
 {
-    let new = asked(s.table, at, task);
+    let line = table::line_of(s.table, task);
+    let new = asked(line, at, task);
     let refusal = activate_refusal(s.last, s.table.count, s.list, new);
-    if refusal != 0 {
-        return refused(s, refusal);
-    }
-    let late = jobs::newly_late(s.list, s.last, at);
-    let monitor = monitor::with_late(s.monitor, late);
-    let change = entered(s.list, task, new.due);
-    accepted(s.table, at, late, monitor, change)
+    let accepted = is_accepted(refusal);
+    let now = moved(s.last, at, accepted);
+    let late = jobs::newly_late(s.list, s.last, now);
+    let first = jobs::is_first(s.list, delayed(new));
+    let job = entry(new, first);
+    let lead = jobs::front_with(jobs::front(s.list, false), job, accepted);
+    let answer = Answer {
+        result: refusal,
+        running: running(lead),
+        call: entry_call(first, task, accepted),
+        late,
+    };
+    let table = s.table;
+    let state = State {
+        table,
+        last: now,
+        monitor: monitor::with_late(s.monitor, late),
+        list: jobs::insert(s.list, job, accepted),
+    };
+    Stepped { state, answer }
 }
 
 // Terminate: the running job leaves the list.
@@ -129,14 +151,28 @@ pub fn terminate(s: State, at: Tick) -> Stepped
     ensures { λ r. ⌜ CallGives s (Terminate at) r ⌝ }
 {
     let refusal = terminate_refusal(s.last, s.list.count, at);
-    if refusal != 0 {
-        return refused(s, refusal);
-    }
-    let late = jobs::newly_late(s.list, s.last, at);
-    let monitor = tallied(s.table, s.list, s.monitor, at, late);
-    let others = jobs::remove(s.list, 0);
-    let change = settled(others);
-    accepted(s.table, at, late, monitor, change)
+    let accepted = is_accepted(refusal);
+    let now = moved(s.last, at, accepted);
+    let late = jobs::newly_late(s.list, s.last, now);
+    let first = jobs::first(s.list);
+    let line = table::line_of(s.table, first.task);
+    let response = response_of(line, first, at, accepted);
+    let lead = jobs::front(s.list, accepted);
+    let answer = Answer {
+        result: refusal,
+        running: running(lead),
+        call: settle_call(lead, accepted),
+        late,
+    };
+    let table = s.table;
+    let reported = monitor::with_late(s.monitor, late);
+    let state = State {
+        table,
+        last: now,
+        monitor: monitor::with_ended(reported, accepted, first.task, response),
+        list: jobs::remove_first(s.list, accepted),
+    };
+    Stepped { state, answer }
 }
 
 // Chain: the running job leaves, and the named task's job is inserted at the same tick.
@@ -144,16 +180,33 @@ pub fn chain(s: State, at: Tick, task: u8) -> Stepped
     requires { ⌜ Handed s ⌝ }
     ensures { λ r. ⌜ CallGives s (Chain at task) r ⌝ }
 {
-    let new = asked(s.table, at, task);
+    let first = jobs::first(s.list);
+    let lines = table::lines_of(s.table, task, first.task);
+    let line = lines.one;
+    let ending = lines.other;
+    let new = asked(line, at, task);
     let refusal = chain_refusal(s.last, s.table.count, s.list, new);
-    if refusal != 0 {
-        return refused(s, refusal);
-    }
-    let late = jobs::newly_late(s.list, s.last, at);
-    let monitor = tallied(s.table, s.list, s.monitor, at, late);
-    let others = jobs::remove(s.list, 0);
-    let change = chained(others, task, new.due);
-    accepted(s.table, at, late, monitor, change)
+    let accepted = is_accepted(refusal);
+    let now = moved(s.last, at, accepted);
+    let late = jobs::newly_late(s.list, s.last, now);
+    let response = response_of(ending, first, at, accepted);
+    let job = delayed(new);
+    let lead = jobs::front_with(jobs::front(s.list, accepted), job, accepted);
+    let answer = Answer {
+        result: refusal,
+        running: running(lead),
+        call: settle_call(lead, accepted),
+        late,
+    };
+    let table = s.table;
+    let reported = monitor::with_late(s.monitor, late);
+    let state = State {
+        table,
+        last: now,
+        monitor: monitor::with_ended(reported, accepted, first.task, response),
+        list: jobs::replace_first(s.list, job, accepted),
+    };
+    Stepped { state, answer }
 }
 
 // Any of the four.
@@ -170,6 +223,16 @@ pub fn call(s: State, call: Call) -> Stepped
 }
 
 // ---- the refusals, in the order of the rows
+
+// Row 8.
+fn tick_refusal(last: Tick, at: Tick) -> u8
+    ensures { λ r. ⌜ r ≡ tickRefusal last at ⌝ }
+{
+    if ticks::bad_tick(last, at) {
+        return 8;
+    }
+    0
+}
 
 // Rows 8, 3, 4, 10 and 9.
 fn activate_refusal(last: Tick, lines: usize, list: JobList, new: Activation) -> u8
@@ -236,11 +299,27 @@ fn chain_refusal(last: Tick, lines: usize, list: JobList, new: Activation) -> u8
 
 // ---- the parts of a call
 
-// The job that an activation at this tick would make, and the limit that it has to keep.
-fn asked(table: TaskTable, at: Tick, task: u8) -> Activation
-    ensures { λ r. ⌜ r ≡ askedOf table at task ⌝ }
+// 0 is no refusal.
+fn is_accepted(refusal: u8) -> bool
+    ensures { λ r. ⌜ r ≡ eqb refusal 0 ⌝ }
 {
-    let line = table::line_of(table, task);
+    refusal == 0
+}
+
+// The last accepted call's tick, after this call.
+fn moved(last: Tick, at: Tick, accepted: bool) -> Tick
+    ensures { λ r. ⌜ r ≡ cond accepted at last ⌝ }
+{
+    if accepted {
+        return at;
+    }
+    last
+}
+
+// The job that an activation at this tick would make, and the limit that it has to keep.
+fn asked(line: Line, at: Tick, task: u8) -> Activation
+    ensures { λ r. ⌜ r ≡ askedBy line at task ⌝ }
+{
     let deadline = line.deadline;
     Activation {
         at,
@@ -250,151 +329,90 @@ fn asked(table: TaskTable, at: Tick, task: u8) -> Activation
     }
 }
 
-// What runs: the first job. It is the one that the kernel runs (rules, proofs/First).
-fn running(list: JobList) -> Choice
-    ensures { λ r. ⌜ r ≡ choiceIn (view list) ⌝ }
+// What runs: the job that leads. It is the one that the kernel runs (rules, proofs/First).
+fn running(lead: Lead) -> Choice
+    ensures { λ r. ⌜ r ≡ choiceOf lead ⌝ }
 {
-    if list.count == 0 {
-        return Choice::Idle;
+    match lead {
+        Lead::NoJob => Choice::Idle,
+        Lead::Leads(job) => {
+            let due = job.due;
+            Choice::Runs(job.task, due)
+        }
     }
-    let job = jobs::first(list);
-    let due = job.due;
-    Choice::Runs(job.task, due)
 }
 
-// A new job is released if it is first, and delayed otherwise.
-fn entry_phase(first: bool) -> Phase
-    ensures { λ r. ⌜ r ≡ entryPhase first ⌝ }
+// A new job, held back.
+fn delayed(new: Activation) -> Job
+    ensures { λ r. ⌜ r ≡ jobAs (new .task) (new .due) Delayed ⌝ }
 {
-    if first {
-        return Phase::Released;
+    let due = new.due;
+    Job {
+        due,
+        task: new.task,
+        phase: Phase::Delayed,
     }
-    Phase::Delayed
+}
+
+// A new job of an activation: released if it is first, and delayed otherwise.
+fn entry(new: Activation, first: bool) -> Job
+    ensures { λ r. ⌜ r ≡ jobAs (new .task) (new .due) (entryPhase first) ⌝ }
+{
+    let due = new.due;
+    let phase = if first {
+        Phase::Released
+    } else {
+        Phase::Delayed
+    };
+    Job {
+        due,
+        task: new.task,
+        phase,
+    }
 }
 
 // The kernel call of an activation: ActivateTask if the new job is first, otherwise none.
-fn entry_call(first: bool, task: u8) -> KernelCall
-    ensures { λ r. ⌜ r ≡ entryCall first task ⌝ }
+fn entry_call(first: bool, task: u8, accepted: bool) -> KernelCall
+    ensures { λ r. ⌜ r ≡ cond accepted (entryCall first task) NoCall ⌝ }
 {
-    if first {
-        return KernelCall::ActivateTask(task);
+    if accepted {
+        if first {
+            return KernelCall::ActivateTask(task);
+        }
     }
     KernelCall::NoCall
 }
 
-// Activate: insert. If the new job is first, release it by ActivateTask; otherwise no kernel call.
-fn entered(list: JobList, task: u8, due: Tick) -> Change
-    requires { ⌜ Shaped list × (list .count < places) ⌝ }
-    ensures { λ r. ⌜ r ≡ enteredIn task due (view list) ⌝ }
+// The kernel call once the running job has left: ChainTask if the job that leads is delayed; otherwise TerminateTask.
+fn settle_call(lead: Lead, accepted: bool) -> KernelCall
+    ensures { λ r. ⌜ r ≡ cond accepted (settleOf lead) NoCall ⌝ }
 {
-    let new = Job {
-        due,
-        task,
-        phase: Phase::Delayed,
-    };
-    let first = jobs::is_first(list, new);
-    let phase = entry_phase(first);
-    let job = Job { due, task, phase };
-    Change {
-        list: jobs::insert(list, job),
-        call: entry_call(first, task),
+    if !accepted {
+        return KernelCall::NoCall;
+    }
+    match lead {
+        Lead::NoJob => KernelCall::TerminateTask,
+        Lead::Leads(job) => {
+            let phase = job.phase;
+            match phase {
+                Phase::Delayed => KernelCall::ChainTask(job.task),
+                Phase::Released => KernelCall::TerminateTask,
+            }
+        }
     }
 }
 
-// The kernel call once the running job has left: ChainTask if the new first job is delayed; otherwise TerminateTask.
-fn settle_call(list: JobList) -> KernelCall
-    ensures { λ r. ⌜ r ≡ settleCall (view list) ⌝ }
+// The response of a job that ends at a tick; 0 where it doesn't end.
+fn response_of(line: Line, job: Job, at: Tick, accepted: bool) -> u64
+    requires { ⌜ (line .deadline .0 ≤ 1000000000) × (accepted ≡ true → at .0 ≤ greatest .0) ⌝ }
+    ensures { λ r. ⌜ r ≡ cond accepted (responseBy at (job .due) (line .deadline)) 0 ⌝ }
 {
-    if list.count == 0 {
-        return KernelCall::TerminateTask;
+    if !accepted {
+        return 0;
     }
-    let first = jobs::first(list);
-    let phase = first.phase;
-    match phase {
-        Phase::Delayed => KernelCall::ChainTask(first.task),
-        Phase::Released => KernelCall::TerminateTask,
-    }
-}
-
-// The running job has left: the new first job is released, if it is delayed.
-fn settled(list: JobList) -> Change
-    requires { ⌜ Shaped list ⌝ }
-    ensures { λ r. ⌜ r ≡ settledIn (view list) ⌝ }
-{
-    Change {
-        list: jobs::release_first(list),
-        call: settle_call(list),
-    }
-}
-
-// Chain: the named task's job is inserted, then as for terminate.
-fn chained(others: JobList, task: u8, due: Tick) -> Change
-    requires { ⌜ Shaped others × (others .count < places) ⌝ }
-    ensures { λ r. ⌜ r ≡ chainedIn task due (view others) ⌝ }
-{
-    let job = Job {
-        due,
-        task,
-        phase: Phase::Delayed,
-    };
-    let list = jobs::insert(others, job);
-    settled(list)
-}
-
-// The response of a job that ends at a tick.
-fn response_of(table: TaskTable, job: Job, at: Tick) -> u64
-    requires { ⌜ Short table × (at .0 ≤ greatest .0) ⌝ }
-    ensures { λ r. ⌜ r ≡ responseIn table job at ⌝ }
-{
-    let line = table::line_of(table, job.task);
     let due = job.due;
     let deadline = line.deadline;
     ticks::response(at, due, deadline)
-}
-
-// Late jobs are counted, then the first job, which ended.
-fn tallied(table: TaskTable, list: JobList, monitor: Monitor, at: Tick, late: Late) -> Monitor
-    requires { ⌜ Short table × (at .0 ≤ greatest .0) ⌝ }
-    ensures { λ r. ⌜ r ≡ talliedIn table (view list) at (lateCounted late monitor) ⌝ }
-{
-    let job = jobs::first(list);
-    let response = response_of(table, job, at);
-    let reported = monitor::with_late(monitor, late);
-    monitor::with_ended(reported, job.task, response)
-}
-
-// A refused call: nothing changes.
-fn refused(s: State, number: u8) -> Stepped
-    ensures { λ r. ⌜ r ≡ refusedOf s number ⌝ }
-{
-    let answer = Answer {
-        result: number,
-        running: running(s.list),
-        call: KernelCall::NoCall,
-        late: jobs::none_late(),
-    };
-    Stepped { state: s, answer }
-}
-
-// What an accepted call leaves, and its answer.
-fn accepted(table: TaskTable, at: Tick, late: Late, monitor: Monitor, change: Change) -> Stepped
-    ensures { λ r. ⌜ r ≡ acceptedOf table at late monitor change ⌝ }
-{
-    let list = change.list;
-    let call = change.call;
-    let answer = Answer {
-        result: 0,
-        running: running(list),
-        call,
-        late,
-    };
-    let state = State {
-        table,
-        last: at,
-        list,
-        monitor,
-    };
-    Stepped { state, answer }
 }
 
 // Does nothing. Its contract is all of specs/Claims, so that a claim without a proof fails the check.

@@ -1,6 +1,7 @@
 -- One outcome: any two that satisfy what the source of a public function ensures are equal. A field for each. Assumes nothing.
 use Rattle.rules.proofs.Outcome.{OneStated, only}
 use Rattle.table.proofs.line_of.Reads as line-of
+use Rattle.table.proofs.lines_of.Reads as lines-of
 use Rattle.table.proofs.check.Reads as check
 use Rattle.table.proofs.kept.Reads as kept
 use Rattle.table.proofs.empty.Reads as empty
@@ -10,6 +11,7 @@ use Rattle.table.proofs.pushed.Reads as pushed
 
 pub record Outcomes : Type 0 where
   line-of : OneStated line-of.Post
+  lines-of : OneStated lines-of.Post
   check : OneStated check.Post
   kept : OneStated kept.Post
   empty : OneStated empty.Post
@@ -21,6 +23,7 @@ pub the-outcomes : Outcomes
 the-outcomes =
     record {
       line-of = λ κs a r r′ s s′. only;
+      lines-of = λ κs a r r′ s s′. only;
       check = λ κs a r r′ s s′. only;
       kept = λ κs a r r′ s s′. only;
       empty = λ κs a r r′ s s′. only;

@@ -41,6 +41,26 @@ pub fn line_of(table: TaskTable, task: u8) -> Line
     if t < PLACES { table.lines[t] } else { blank() }
 }
 
+// The lines at two tasks' places.
+pub struct LinePair {
+    pub one: Line,
+    pub other: Line,
+}
+
+// Both at once: the table is copied to be looked into, once.
+pub fn lines_of(table: TaskTable, one: u8, other: u8) -> LinePair
+    ensures { λ r. ⌜ r ≡ record { one = lineAt (table .lines) one; other = lineAt (table .lines) other } ⌝ }
+{
+    let i = one as usize;
+    let j = other as usize;
+    let first = if i < PLACES { table.lines[i] } else { blank() };
+    let second = if j < PLACES { table.lines[j] } else { blank() };
+    LinePair {
+        one: first,
+        other: second,
+    }
+}
+
 // What answers where no line breaks a rule.
 fn fine() -> Verdict
     ensures { λ r. ⌜ r ≡ fine ⌝ }

@@ -11,6 +11,8 @@ use libc::STDOUT_FILENO;
 use print::ROOM;
 use rules::Answer;
 use rules::Call;
+use rules::Choice;
+use rules::KernelCall;
 use rules::Named;
 use rules::NumberRead;
 use rules::Opening;
@@ -185,29 +187,74 @@ pub fn next_line(tape: &[u8], run: Run, out: &mut [u8; ROOM], at: usize) -> Line
     }
 }
 
-// The next piece: lines as long as one more is sure to fit.
+// What stands for an answer before there is one.
+fn silent() -> Answer {
+    Answer {
+        result: 0,
+        running: Choice::Idle,
+        call: KernelCall::NoCall,
+        late: jobs::none_late(),
+    }
+}
+
+// The next piece: lines as long as one more is sure to fit. As `next_line` by `next_line`, but for the copies: each call is stored where the state stands.
 fn piece(tape: &[u8], run: Run, out: &mut [u8; ROOM], at: usize) -> Lined
     requires { ⌜ Handed (run .state) × (length (now out) ≡ bufferRoom) × (at + lineMost ≤ bufferRoom) ⌝ }
     ensures { λ r. ⌜ Piece (now (tape .entry)) run (now (out .entry)) at r (now (out .exit)) ⌝ }
 {
-    let mut now = run;
+    let mut state = run.state;
+    let mut place = run.at;
+    let mut preceding = run.preceding;
     let mut next = at;
     while next + LINE <= ROOM {
-        let r = next_line(tape, now, out, next);
-        next = r.next;
-        now = r.run;
-        if !r.more {
+        let read = records::read_record(tape, place, preceding);
+        let RecordRead::Record { call, next: behind } = read else {
+            let behind = stopped(out, next, read, place);
             return Lined {
                 more: false,
-                next,
-                run: now,
+                next: behind,
+                run: Run {
+                    state,
+                    at: place,
+                    preceding,
+                },
             };
+        };
+        place = behind;
+        preceding = records::tick_of(call);
+        let mut answer = silent();
+        match call {
+            Call::Wait(tick) => {
+                let r = scheduler::tick(state, tick);
+                state = r.state;
+                answer = r.answer;
+            }
+            Call::Activate(tick, task) => {
+                let r = scheduler::activate(state, tick, task);
+                state = r.state;
+                answer = r.answer;
+            }
+            Call::Terminate(tick) => {
+                let r = scheduler::terminate(state, tick);
+                state = r.state;
+                answer = r.answer;
+            }
+            Call::Chain(tick, task) => {
+                let r = scheduler::chain(state, tick, task);
+                state = r.state;
+                answer = r.answer;
+            }
         }
+        next = print::answer_line(out, next, preceding, answer);
     }
     Lined {
         more: true,
         next,
-        run: now,
+        run: Run {
+            state,
+            at: place,
+            preceding,
+        },
     }
 }
 

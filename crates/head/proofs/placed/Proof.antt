@@ -1,76 +1,27 @@
 -- `head::placed` meets its contract. Assumes nothing.
 use borrow.Author.Needs.{needs}
-use Prim.Native.Nat.{_-_}
-use mathlib.Core.Path.{_≡_, refl}
+use Prim.Native.Nat.{_≤_}
+use mathlib.Core.Path.{_≡_, sym}
 use mathlib.Core.List.{map}
-use lib.ListN.{length, take, length-map, length-set}
 use native.Mathlib.Omega.{arith}
+use lib.ListN.{length, length-map, drop-of-length-le}
 use Rattle.rules.specs.Words.{places}
-use Rattle.head.specs.Placed.{placedJob, placed}
-use Rattle.head.proofs.Copies.{copied-turn, copied-end}
+use Rattle.head.specs.Placed.{placedJob}
 use Rattle.head.proofs.placed.Statement.{statement}
 use Rattle.head.proofs.placed.Tie as tie
 
-abbrev Inv-loop : tie.InvT-loop
-Inv-loop s list jobs₀ i₀ jobs i = (length jobs ≡ places) × (take i jobs ≡ take i (map placedJob (s .list .jobs)))
+placed-jobs-requires : tie.Need-placed-jobs-requires
+placed-jobs-requires c κs =
+    let b = c .before .before in
+    let n : length (b .args .s .list .jobs) ≡ places = simp length-map at (b .good .0 .1 .1 .1 .1 .0 .1 .1 .0 .1 .0 .1) in
+    let m : length (map placedJob (b .args .s .list .jobs)) ≤ places = simp length-map (omega (arith, n)) in
+    (omega arith, sym (drop-of-length-le (map placedJob (b .args .s .list .jobs)) m))
 
-abbrev μ-loop : tie.MeasureT-loop
-μ-loop s list jobs₀ i₀ jobs i = places - i
+placed-with-requires : tie.Need-placed-with-requires
+placed-with-requires c κs = search needs
 
--- the list has its places
-full : (c : tie.Start Inv-loop μ-loop) → length (c .args .s .list .jobs) ≡ places
-full c = simp length-map at (c .good .0 .1 .1 .1 .1 .0 .1 .1 .0 .1 .0 .1)
-
-loop-holds : tie.Need-loop-holds Inv-loop μ-loop
-loop-holds c = (refl, refl)
-
-mul-job : tie.Need-mul-job Inv-loop μ-loop
-mul-job c = search needs
-
-element-copy-out-job : tie.Need-element-copy-out-job Inv-loop μ-loop
-element-copy-out-job c = search needs
-
-placed-job-requires : tie.Need-placed-job-requires Inv-loop μ-loop
-placed-job-requires c κs = search needs
-
-mul-jobs : tie.Need-mul-jobs Inv-loop μ-loop
-mul-jobs c = search needs
-
-array-set-from-jobs : tie.Need-array-set-from-jobs Inv-loop μ-loop
-array-set-from-jobs c = search needs
-
-add-i : tie.Need-add-i Inv-loop μ-loop
-add-i c = search needs
-
-loop-less : tie.Need-loop-less Inv-loop μ-loop
-loop-less c = search needs
-
-loop-again : tie.Need-loop-again Inv-loop μ-loop
-loop-again c =
-    let b = c .before .before .before .before .before in
-    let l = c .before .before .before .loop in
-    (simp length-set (l .inv .0), rw (c .placed-job .ensures) (copied-turn placedJob (b .args .s .list .jobs) (l .jobs) (l .i) (omega (arith, full b, l .inv .0)) (l .inv .1) _ (omega (arith, full b))))
-
-returns : tie.Need-returns Inv-loop μ-loop
-unfolding placed
-returns c =
-    let b = c .before .before .before .before .before .before in
-    let l = c .before .before .before .before .loop in
-    rw (copied-end placedJob (b .args .s .list .jobs) (l .jobs) (l .i) (omega (arith, full b, l .inv .0)) (l .inv .1) (omega (arith, full b)))
+returns : tie.Need-returns
+returns c = search needs
 
 pub placed-spec : {M : Type 1} → statement M
-placed-spec =
-    tie.close
-    (tie.spec
-    Inv-loop
-    μ-loop
-    loop-holds
-    mul-job
-    element-copy-out-job
-    placed-job-requires
-    mul-jobs
-    array-set-from-jobs
-    add-i
-    loop-less
-    loop-again
-    returns)
+placed-spec = tie.close (tie.spec placed-jobs-requires placed-with-requires returns)

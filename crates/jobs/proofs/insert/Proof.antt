@@ -1,28 +1,36 @@
 -- `jobs::insert` meets its contract. Assumes nothing.
-use native.Mathlib.Omega.{arith}
-use Rattle.jobs.specs.Listed.{view}
-use Rattle.jobs.proofs.Laid.{view-length}
-use Rattle.jobs.proofs.Scans.{place-le}
-use Rattle.jobs.proofs.Shifts.{insert-law}
+use Prim.Native.Nat.{_+_}
+use mathlib.Core.Logic.{⊎-elim}
+use mathlib.Core.Path.{_≡_, sym, ap, _∙_}
+use mathlib.Core.Bool.{cond}
 use borrow.Author.Needs.{needs}
+use Rattle.jobs.proofs.Changes.{aim-less, insert-law}
 use Rattle.jobs.proofs.insert.Statement.{statement}
 use Rattle.jobs.proofs.insert.Tie as tie
 
-place-requires : tie.Need-place-requires
-place-requires c κs = search needs
+aimed-requires : tie.Need-aimed-requires
+aimed-requires c κs = search needs
 
 add-count : tie.Need-add-count
 add-count c = search needs
 
-opened-requires : tie.Need-opened-requires
-opened-requires c κs =
+entered-requires : tie.Need-entered-requires
+entered-requires c κs =
     let b = c .before .before .before in
-    (omega (arith, c .before .before .place .ensures, place-le (b .args .job) (view (b .args .list)), view-length (b .args .list) (b .pre .0)), omega (arith, b .pre .1))
+    rw (c .before .before .aimed .ensures) (aim-less (b .args .list) (b .pre .0) (b .args .job) (b .args .accepted) (b .pre .2))
 
 returns : tie.Need-returns
 returns c =
     let b = c .before .before .before .before in
-    rw (c .opened .ensures, c .before .before .before .place .ensures) (insert-law (b .args .list) (b .args .job) (b .pre .0) (b .pre .1))
+    let a = b .args in
+    let n = a .list .count in
+    rw (c .entered .ensures, c .before .before .before .aimed .ensures)
+    (insert-law (a .list) (b .pre .0) (a .job) (a .accepted) (c .before .if1 .count) (b .pre .1) (b .pre .2)
+    (⊎-elim
+    {C = cond (a .accepted) (n + 1) n ≡ c .before .if1 .count}
+    (λ w. ap (λ z. cond z (n + 1) n) (w .0 .taken) ∙ sym (w .1))
+    (λ w. ap (λ z. cond z (n + 1) n) (w .0 .left) ∙ sym (w .1))
+    (c .before .if1 .came)))
 
 pub insert-spec : {M : Type 1} → statement M
-insert-spec = tie.close (tie.spec place-requires add-count opened-requires returns)
+insert-spec = tie.close (tie.spec aimed-requires add-count entered-requires returns)

@@ -1,10 +1,11 @@
 -- `monitor::with_ended` meets its contract. Assumes nothing.
 use Prim.Native.Nat.{_≤_}
-use mathlib.Core.Path.{_≡_, ap}
-use lib.ListN.{length, length-map}
+use mathlib.Core.Path.{_≡_, sym, ap, _∙_}
+use mathlib.Core.Bool.{Bool, cond}
 use native.Mathlib.Omega.{arith}
+use lib.ListN.{length, length-map}
 use borrow.Author.Needs.{needs}
-use Rattle.rules.specs.Counts.{endedMore}
+use Rattle.rules.specs.Counts.{endedMore, onTask}
 use Rattle.monitor.specs.Tallies.{counts}
 use Rattle.monitor.proofs.Laws.{on-none}
 use Rattle.monitor.proofs.with_ended.Statement.{statement}
@@ -26,14 +27,23 @@ array-set-from-tallies : tie.Need-array-set-from-tallies
 array-set-from-tallies c = search needs
 
 returns : tie.Need-returns
-returns c = rw (c .ended-more .ensures)
+returns c =
+    let a = c .before .before .before .before .before .args in
+    rw (c .ended-more .ensures) (ap (λ (b : Bool). counts (cond b (onTask (a .task) (endedMore (a .response)) (a .monitor .tallies)) (a .monitor .tallies))) (sym (c .before .before .before .if1 .taken)))
 
 returns-2 : tie.Need-returns-2
 returns-2 c =
-    let b = c .before .before in
-    let n : length (b .args .monitor .tallies) ≡ 32 = simp length-map at (b .good .0 .1 .1 .0 .1 .0 .1) in
-    let h : length (b .args .monitor .tallies) ≤ b .args .task = omega arith in
-    ap counts (on-none (b .args .task) (endedMore (b .args .response)) (b .args .monitor .tallies) h)
+    let b = c .before .before .before in
+    let a = b .args in
+    let n : length (a .monitor .tallies) ≡ 32 = simp length-map at (b .good .0 .1 .1 .0 .1 .0 .1) in
+    let h : length (a .monitor .tallies) ≤ a .task = omega arith in
+    ap counts (on-none (a .task) (endedMore (a .response)) (a .monitor .tallies) h)
+    ∙ ap (λ (b : Bool). counts (cond b (onTask (a .task) (endedMore (a .response)) (a .monitor .tallies)) (a .monitor .tallies))) (sym (c .before .if1 .taken))
+
+returns-3 : tie.Need-returns-3
+returns-3 c =
+    let a = c .before .before .args in
+    ap (λ (b : Bool). counts (cond b (onTask (a .task) (endedMore (a .response)) (a .monitor .tallies)) (a .monitor .tallies))) (sym (c .if1 .left))
 
 pub with-ended-spec : {M : Type 1} → statement M
 with-ended-spec =
@@ -45,4 +55,5 @@ with-ended-spec =
     mul-tallies
     array-set-from-tallies
     returns
-    returns-2)
+    returns-2
+    returns-3)

@@ -1,44 +1,57 @@
 -- `scheduler::settle_call` meets its contract. Assumes nothing.
-use Prim.Native.Nat.{_<_}
-use mathlib.Core.Path.{_≡_, sym, ap, _∙_}
-use native.Mathlib.Omega.{arith}
-use lib.ListN.{length-map, length}
-use Rattle.rules.specs.Words.{places}
-use Rattle.rules.specs.declared.Job.{Job}
-use Rattle.rules.specs.declared.KernelCall.the-variants.{ChainTask}
-use Rattle.scheduler.proofs.Cases.{settle-none, settle-first}
+use mathlib.Core.Path.{sym, ap, _∙_}
+use mathlib.Core.Bool.{Bool, cond}
+use borrow.Author.Tests.{not-true, not-false}
 use borrow.Author.Needs.{needs}
+use Rattle.rules.specs.declared.Phase.{Phase}
+use Rattle.rules.specs.declared.KernelCall.the-variants.{NoCall}
+use Rattle.scheduler.specs.Steps.{settleAs, settleOf}
 use Rattle.scheduler.proofs.settle_call.Statement.{statement}
 use Rattle.scheduler.proofs.settle_call.Tie as tie
 
-full : (c : tie.Start) → 0 < length (c .args .list .jobs)
-full c = let n : length (c .args .list .jobs) ≡ places = simp length-map at (c .good .0 .1 .1 .0 .1 .0 .1) in omega (arith, n)
-
 returns : tie.Need-returns
-returns c = sym (settle-none (c .before .before .args .list) (c .if1 .taken))
-
-first-requires : tie.Need-first-requires
-first-requires c κs = search needs
+returns c = let a = c .before .args in ap (λ (b : Bool). cond b (settleOf (a .lead)) NoCall) (sym (not-true (a .accepted) (c .if1 .taken)))
 
 enum-told : tie.Need-enum-told
 enum-told c = search needs
 
+enum-known-lead : tie.Need-enum-known-lead
+enum-known-lead c = search needs
+
 enum-told-2 : tie.Need-enum-told-2
 enum-told-2 c = search needs
 
+enum-told-3 : tie.Need-enum-told-3
+enum-told-3 c = search needs
+
 returns-2 : tie.Need-returns-2
 returns-2 c =
-    let f = c .before .before in
-    let b = f .before .before .before in
-    ap (λ (x : Job). ChainTask (x .task)) (f .first .ensures)
-    ∙ sym (settle-first (b .args .list) (full b) (f .before .if1 .left) _ (ap (λ (x : Job). x .phase) (sym (f .first .ensures)) ∙ c .enum-told .given .1))
+    let a = c .before .before .before .args in
+    ap settleOf (sym (c .enum-told .given .1)) ∙ ap (λ (b : Bool). cond b (settleOf (a .lead)) NoCall) (sym (not-false (a .accepted) (c .before .before .if1 .left)))
 
 returns-3 : tie.Need-returns-3
 returns-3 c =
-    let f = c .before .before in
-    let b = f .before .before .before in
-    sym (settle-first (b .args .list) (full b) (f .before .if1 .left) _ (ap (λ (x : Job). x .phase) (sym (f .first .ensures)) ∙ c .enum-told2 .given .1))
+    let a = c .before .before .before .before .before .before .args in
+    let o = c .before .before .before .lead .given in
+    ap (λ (p : Phase). settleAs p (o .0 .0 .task)) (sym (c .enum-told2 .given .1)) ∙ ap settleOf (sym (o .1))
+    ∙ ap (λ (b : Bool). cond b (settleOf (a .lead)) NoCall) (sym (not-false (a .accepted) (c .before .before .before .before .before .if1 .left)))
+
+returns-4 : tie.Need-returns-4
+returns-4 c =
+    let a = c .before .before .before .before .before .before .args in
+    let o = c .before .before .before .lead .given in
+    ap (λ (p : Phase). settleAs p (o .0 .0 .task)) (sym (c .enum-told3 .given .1)) ∙ ap settleOf (sym (o .1))
+    ∙ ap (λ (b : Bool). cond b (settleOf (a .lead)) NoCall) (sym (not-false (a .accepted) (c .before .before .before .before .before .if1 .left)))
 
 pub settle-call-spec : {M : Type 1} → statement M
 settle-call-spec =
-    tie.close (tie.spec returns first-requires enum-told enum-told-2 returns-2 returns-3)
+    tie.close
+    (tie.spec
+    returns
+    enum-told
+    enum-known-lead
+    enum-told-2
+    enum-told-3
+    returns-2
+    returns-3
+    returns-4)

@@ -1,0 +1,397 @@
+//! Tapes at the borders of document 01, a fixed list that is run first, whatever the seed.
+
+use crate::layer::{Call, GREATEST};
+use crate::number::write;
+use crate::program::MOST_BYTES;
+use crate::table::{Line, LONGEST};
+use crate::tape::kind;
+
+/// Table P of the document.
+pub const P: [u8; 10] = [3, 3, 12, 2, 5, 11, 2, 5, 10, 2];
+
+/// The records of the document's one whole run.
+pub const RUN: [u8; 22] = [
+    1, 0, 0, 1, 0, 2, 1, 0, 1, 2, 1, 1, 2, 0, 2, 0, 2, 1, 0, 3, 2, 1,
+];
+
+/// A table as it is on tape, also one that no writer would write.
+pub fn table(lines: &[Line]) -> Vec<u8> {
+    let mut bytes = Vec::new();
+    write(lines.len() as u64, &mut bytes);
+    for line in lines {
+        write(line.d, &mut bytes);
+        write(u64::from(line.priority), &mut bytes);
+        write(u64::from(line.limit), &mut bytes);
+    }
+    bytes
+}
+
+/// A record as it is on tape, with its own ticks.
+pub fn record(ticks: u64, call: Call, bytes: &mut Vec<u8>) {
+    let (kind, task) = kind(call);
+    write(kind, bytes);
+    write(ticks, bytes);
+    if let Some(task) = task {
+        write(u64::from(task), bytes);
+    }
+}
+
+fn tape(lines: &[Line], records: &[(u64, Call)]) -> Vec<u8> {
+    let mut bytes = table(lines);
+    for (ticks, call) in records {
+        record(*ticks, *call, &mut bytes);
+    }
+    bytes
+}
+
+fn line(d: u64, priority: u8, limit: u8) -> Line {
+    Line { d, priority, limit }
+}
+
+fn joined(parts: &[&[u8]]) -> Vec<u8> {
+    parts.concat()
+}
+
+/// All edges.
+pub fn edges() -> Vec<Vec<u8>> {
+    let mut all = vec![joined(&[&P, &RUN])];
+    all.extend(cases());
+    all.extend(short());
+    all.extend(numbers());
+    all.extend(tables());
+    all.extend(sums());
+    all.extend(tasks());
+    all.extend(lengths());
+    all
+}
+
+// cases a to l, as far as a tape can say them
+fn cases() -> Vec<Vec<u8>> {
+    use Call::{Activate, Chain, Terminate, Tick};
+    let p = [line(3, 12, 2), line(5, 11, 2), line(5, 10, 2)];
+    let d = [line(10, 9, 1), line(12, 8, 1)];
+    let j = [line(6, 1, 1)];
+    let both = [(0, Activate(1)), (0, Activate(0)), (0, Tick)];
+    vec![
+        tape(&p, &[(0, Activate(1)), (1, Activate(0)), (1, Terminate)]),
+        tape(&p, &[(0, Activate(0)), (0, Activate(0)), (0, Terminate)]),
+        tape(&d, &[(21, Activate(0)), (1, Activate(1)), (0, Terminate)]),
+        tape(&[line(3, 1, 1), line(5, 2, 1)], &both),
+        tape(&[line(3, 2, 1), line(5, 2, 1)], &both),
+        tape(&[line(5, 2, 1), line(5, 2, 1)], &both),
+        tape(
+            &p,
+            &[
+                (0, Activate(0)),
+                (0, Activate(0)),
+                (0, Chain(0)),
+                (0, Activate(0)),
+            ],
+        ),
+        tape(
+            &p,
+            &[(0, Terminate), (0, Chain(0)), (5, Tick), (0, Terminate)],
+        ),
+        // chain to another task that has its limit
+        tape(
+            &p,
+            &[
+                (0, Activate(0)),
+                (0, Activate(1)),
+                (0, Activate(1)),
+                (0, Chain(1)),
+                (0, Chain(0)),
+            ],
+        ),
+        tape(&j, &[(0, Activate(0)), (6, Terminate)]),
+        tape(&j, &[(0, Activate(0)), (7, Terminate)]),
+        tape(
+            &j,
+            &[(0, Activate(0)), (7, Tick), (0, Tick), (0, Terminate)],
+        ),
+        tape(&[line(3, 2, 16), line(5, 1, 16)], &both),
+        tape(&[line(3, 2, 16), line(5, 1, 17)], &both),
+    ]
+}
+
+// empty, single bytes, and the document's run cut off everywhere
+fn short() -> Vec<Vec<u8>> {
+    let mut all: Vec<Vec<u8>> = vec![Vec::new()];
+    for byte in [0, 1, 2, 3, 4, 31, 32, 33, 34, 127, 128, 129, 160, 254, 255] {
+        all.push(vec![byte]);
+    }
+    let whole = joined(&[&P, &RUN]);
+    for length in 1..whole.len() {
+        all.push(whole[..length].to_vec());
+    }
+    all
+}
+
+// numbers in all forms at each position, with a tape behind them or nothing
+fn numbers() -> Vec<Vec<u8>> {
+    let filled = |fill: u8, count: usize, tail: &[u8]| joined(&[&vec![fill; count], tail]);
+    let mut forms: Vec<Vec<u8>> = vec![
+        vec![0x80, 0x00],
+        vec![0x81, 0x00],
+        vec![0xFF, 0x00],
+        vec![0x80, 0x80, 0x00],
+        filled(0x80, 7, &[0x00]),
+        filled(0x80, 8, &[0x00]),
+        filled(0xFF, 8, &[0x00]),
+        filled(0x80, 8, &[]),
+        filled(0xFF, 8, &[]),
+        filled(0x80, 9, &[]),
+        filled(0xFF, 9, &[]),
+        filled(0x80, 9, &[0x00]),
+        filled(0x80, 9, &[0x01]),
+        filled(0xFF, 9, &[0x7F]),
+        filled(0xFF, 12, &[0x01]),
+        filled(0xFF, 8, &[0x7F]),
+    ];
+    let values = [
+        0,
+        3,
+        4,
+        31,
+        32,
+        33,
+        127,
+        128,
+        129,
+        255,
+        256,
+        300,
+        LONGEST,
+        LONGEST + 1,
+        (1 << 56) - 1,
+        1 << 56,
+        GREATEST,
+        GREATEST + 1,
+    ];
+    for value in values {
+        let mut form = Vec::new();
+        write(value, &mut form);
+        forms.push(form);
+    }
+    // what goes before and behind: count, D, priority, limit; kind, ticks, task of activate and of chain
+    let positions: [(&[u8], &[u8]); 11] = [
+        (&[], &[3, 12, 2, 5, 11, 2, 5, 10, 2, 1, 0, 0]),
+        (&[2], &[12, 2, 5, 11, 2, 1, 0, 0]),
+        (&[2, 3], &[2, 5, 11, 2, 1, 0, 0]),
+        (&[2, 3, 12], &[5, 11, 2, 1, 0, 0]),
+        (&[2, 3, 12, 2, 5, 11], &[1, 0, 0]),
+        (&[1, 3, 12, 2, 1, 0, 0], &[0, 0, 1, 0, 0]),
+        (&[1, 3, 12, 2, 1, 0, 0, 0], &[1, 0, 0]),
+        (&[1, 3, 12, 2, 1, 0, 0, 1], &[0, 1, 0, 0]),
+        (&[1, 3, 12, 2, 1, 0, 0, 2], &[0, 0]),
+        (&[1, 3, 12, 2, 1, 0, 0, 1, 0], &[2, 0]),
+        (&[1, 3, 12, 2, 1, 0, 0, 3, 0], &[2, 0]),
+    ];
+    let mut all = Vec::new();
+    for (before, behind) in positions {
+        for form in &forms {
+            all.push(joined(&[before, form, behind]));
+            all.push(joined(&[before, form]));
+        }
+    }
+    all
+}
+
+// line counts, and tables at the borders of 1 to 5
+fn tables() -> Vec<Vec<u8>> {
+    let mut all = Vec::new();
+    for count in [0, 1, 31, 32, 33, 127, 128, 255, 256, 257, 16_383, 16_384] {
+        let mut bytes = Vec::new();
+        write(count, &mut bytes);
+        for _ in 0..count.min(300) {
+            bytes.extend([9, 7, 1]);
+        }
+        all.push(joined(&[&bytes, &[1, 0, 0, 4]]));
+        bytes.truncate(5);
+        all.push(bytes);
+    }
+    for d in [0, 1, 2, LONGEST - 1, LONGEST, LONGEST + 1, GREATEST] {
+        for limit in [0, 1, 32, 33, 255] {
+            let only = [line(d, 255, limit)];
+            all.push(tape(&only, &[(0, Call::Activate(0)), (1, Call::Terminate)]));
+            let second = [line(LONGEST, 0, 1), line(d, 255, limit)];
+            all.push(tape(
+                &second,
+                &[(0, Call::Activate(1)), (1, Call::Chain(0))],
+            ));
+        }
+    }
+    for limits in [
+        [1, 31],
+        [31, 1],
+        [31, 2],
+        [32, 1],
+        [1, 32],
+        [32, 32],
+        [33, 0],
+    ] {
+        let lines = [line(4, 1, limits[0]), line(4, 1, limits[1])];
+        all.push(tape(&lines, &[(0, Call::Activate(1))]));
+    }
+    for priorities in [[0, 1], [1, 0], [0, 0], [255, 255], [254, 255], [255, 254]] {
+        for ds in [[7, 7], [7, 8], [8, 7]] {
+            let [one, other] = priorities;
+            let lines = [line(ds[0], one, 1), line(ds[1], other, 1)];
+            all.push(tape(
+                &lines,
+                &[(0, Call::Activate(1)), (0, Call::Activate(0))],
+            ));
+        }
+    }
+    // the first pair is not the first line's, nor that of neighbours
+    let lines = [line(9, 1, 1), line(7, 5, 1), line(7, 4, 1), line(8, 4, 1)];
+    all.push(tape(&lines, &[]));
+    let lines = [
+        line(9, 1, 1),
+        line(7, 5, 1),
+        line(8, 3, 1),
+        line(7, 2, 1),
+        line(10, 1, 1),
+    ];
+    all.push(tape(&lines, &[]));
+    // the first line breaks the rule with both others
+    all.push(tape(&[line(7, 5, 1), line(8, 9, 1), line(9, 9, 1)], &[]));
+    // line by line, D before limit within a line
+    all.push(tape(&[line(1, 0, 33), line(0, 0, 1)], &[]));
+    all.push(tape(&[line(1, 0, 1), line(0, 0, 33)], &[]));
+    all.push(tape(&[line(1, 0, 32), line(2, 1, 32)], &[]));
+    // a refusal of the table goes before what is behind it; one of the tape before the table's
+    all.push(joined(&[&[1, 0, 0, 1], &[9, 9, 9]]));
+    all.push(vec![2, 0, 0, 1, 3]);
+    all.push(vec![2, 0, 0, 1, 3, 1, 0x80, 0x00]);
+    all
+}
+
+// ticks and their sum at the greatest tick; deadlines at its reach
+fn sums() -> Vec<Vec<u8>> {
+    use Call::{Activate, Chain, Terminate, Tick};
+    let lines = [line(3, 12, 2), line(5, 11, 2)];
+    let of = |records: &[(u64, Call)]| tape(&lines, records);
+    let mut all = Vec::new();
+    for last in [Tick, Activate(0), Terminate, Chain(0)] {
+        all.push(of(&[(GREATEST, last), (0, last)]));
+        all.push(of(&[(GREATEST, last), (1, last), (0, Tick)]));
+        all.push(of(&[(GREATEST + 1, last)]));
+        all.push(of(&[(GREATEST - 1, Tick), (1, last)]));
+        all.push(of(&[(GREATEST - 1, Tick), (2, last)]));
+        all.push(of(&[(GREATEST, Tick), (GREATEST, last)]));
+        // the sum counts refused calls as well
+        all.push(of(&[(GREATEST, Chain(9)), (0, last), (1, last)]));
+        for short_by in 0..8 {
+            let start = (GREATEST - 10, Activate(1));
+            all.push(of(&[start, (10 - short_by, last), (0, Tick), (0, last)]));
+        }
+    }
+    // a reached limit goes before a deadline out of reach
+    let only = [line(3, 7, 1)];
+    let records = [
+        (GREATEST - 3, Activate(0)),
+        (0, Activate(0)),
+        (1, Activate(0)),
+        (1, Activate(1)),
+        (0, Chain(0)),
+        (1, Terminate),
+        (0, Chain(0)),
+        (0, Activate(0)),
+    ];
+    all.push(tape(&only, &records));
+    // the sum is refused before the task number is read
+    let cut = joined(&[&of(&[(GREATEST, Tick)]), &[1, 1]]);
+    all.push(cut.clone());
+    all.push(joined(&[&cut, &[0x80, 0x00]]));
+    all.push(joined(&[&of(&[(GREATEST, Tick)]), &[1, 0]]));
+    for d in [1, 2, LONGEST] {
+        for over in [0, 1] {
+            let at = GREATEST - d + over;
+            let only = [line(d, 0, 2)];
+            all.push(tape(
+                &only,
+                &[(at, Activate(0)), (0, Activate(0)), (0, Chain(0))],
+            ));
+            let records = [(at - 1, Activate(0)), (1, Chain(0)), (0, Terminate)];
+            all.push(tape(&only, &records));
+        }
+    }
+    all
+}
+
+// task numbers at the line count and at the byte's end
+fn tasks() -> Vec<Vec<u8>> {
+    let mut all = Vec::new();
+    for count in [1, 2, 31, 32] {
+        let lines = vec![line(4, 200, 1); count];
+        for task in [0, 1, 30, 31, 32, 127, 128, 255] {
+            let records = [
+                (1, Call::Chain(task)),
+                (0, Call::Activate(task)),
+                (1, Call::Activate(0)),
+                (9, Call::Chain(task)),
+                (0, Call::Terminate),
+            ];
+            all.push(tape(&lines, &records));
+        }
+        for kind in [1, 3] {
+            all.push(joined(&[&table(&lines), &[kind, 0, 0x80, 0x02]]));
+        }
+    }
+    all
+}
+
+// of exactly some length: P, then ticks; an odd one starts with an activation
+fn ticks_of_length(length: usize) -> Vec<u8> {
+    let mut bytes = P.to_vec();
+    if (length - bytes.len()) % 2 == 1 {
+        bytes.extend([1, 0, 0]);
+    }
+    bytes.resize(length, 0);
+    bytes
+}
+
+// activate and terminate in turn, then ticks
+fn jobs_of_length(length: usize) -> Vec<u8> {
+    let mut bytes = P.to_vec();
+    while bytes.len() + 8 <= length {
+        bytes.extend([1, 1, 1, 2, 2]);
+    }
+    if (length - bytes.len()) % 2 == 1 {
+        bytes.extend([3, 0, 0]);
+    }
+    bytes.resize(length, 0);
+    bytes
+}
+
+fn lengths() -> Vec<Vec<u8>> {
+    let mut all = Vec::new();
+    for length in [
+        65_534,
+        65_535,
+        MOST_BYTES,
+        MOST_BYTES + 1,
+        MOST_BYTES + 2,
+        70_000,
+    ] {
+        all.push(ticks_of_length(length));
+        all.push(jobs_of_length(length));
+        // cut off in the last record, or with a bad last byte
+        let mut bytes = jobs_of_length(length - 1);
+        bytes.push(1);
+        all.push(bytes);
+        let mut bytes = ticks_of_length(length);
+        bytes[length - 2] = 4;
+        all.push(bytes);
+        // bad from the start
+        all.push(vec![0; length]);
+        all.push(vec![0xFF; length]);
+        all.push(vec![33; length]);
+        let mut bytes = ticks_of_length(length);
+        bytes[1] = 0;
+        all.push(bytes);
+    }
+    all.push(vec![1; 140_000]);
+    all
+}

@@ -1,0 +1,15 @@
+//! Document 01 written a second time, from its words alone, and a comparer of what both print.
+
+pub mod compare;
+pub mod edges;
+pub mod history;
+pub mod kernel;
+pub mod layer;
+pub mod make;
+pub mod met;
+pub mod number;
+pub mod plain;
+pub mod program;
+pub mod random;
+pub mod table;
+pub mod tape;

@@ -1,0 +1,247 @@
+//! Document 01, "The program and one whole run": what is printed for the bytes of a tape.
+
+use crate::history::History;
+use crate::kernel::Kernel;
+use crate::layer::{Answer, Call, KernelCall, Layer};
+use crate::met::Met;
+use crate::plain::Plain;
+use crate::table::{check, Line, MOST};
+use crate::tape::{read_count, read_lines, read_record, write_record, write_table, Read};
+
+/// More bytes of input are refused with 26.
+pub const MOST_BYTES: usize = 65_536;
+
+pub struct Ran {
+    pub out: Vec<u8>,
+    pub met: Met,
+}
+
+/// What is printed; an error where layer, kernel, plain scheduler or history part.
+pub fn run(bytes: &[u8]) -> Result<Ran, String> {
+    let mut met = Met::default();
+    let text = print(bytes, &mut met)?;
+    let out = text.into_bytes();
+    met.printed(&out);
+    Ok(Ran { out, met })
+}
+
+fn print(bytes: &[u8], met: &mut Met) -> Result<String, String> {
+    if bytes.len() > MOST_BYTES {
+        return Ok(bad_tape(26, MOST_BYTES, met));
+    }
+    let (count, place) = match read_count(bytes) {
+        Ok(read) => read,
+        Err(number) => return Ok(bad_tape(number, 0, met)),
+    };
+    // a count above 32 is refused as soon as it is read
+    if count > MOST {
+        return Ok(bad_table(1, None, None, met));
+    }
+    let (lines, place) = match read_lines(bytes, count, place) {
+        Ok(read) => read,
+        Err(number) => return Ok(bad_tape(number, 0, met)),
+    };
+    same_table(bytes, &lines, place)?;
+    if let Err(refusal) = check(&lines) {
+        let (first, second) = (refusal.first, refusal.second);
+        return Ok(bad_table(refusal.number, first, second, met));
+    }
+    let mut text = "tick res run due call late\n".to_string();
+    let mut heads = Heads::fresh(&lines);
+    let (mut place, mut preceding) = (place, 0);
+    loop {
+        match read_record(bytes, place, preceding) {
+            Read::Record { call, tick, after } => {
+                same_record(bytes, place, after, preceding, tick, call)?;
+                text += &heads.call(tick, call, met)?;
+                place = after;
+                preceding = tick;
+            }
+            Read::End => {
+                met.written += 1;
+                break;
+            }
+            Read::Refused(number) => {
+                text += &bad_tape(number, place, met);
+                break;
+            }
+        }
+    }
+    heads.same_in_the_end()?;
+    Ok(text)
+}
+
+fn bad_tape(number: u8, place: usize, met: &mut Met) -> String {
+    met.tape_refusals[usize::from(number)] += 1;
+    format!("tape {number} at {place}\n")
+}
+
+fn bad_table(number: u8, first: Option<usize>, second: Option<usize>, met: &mut Met) -> String {
+    met.table_refusals[usize::from(number)] += 1;
+    format!("table {number} {} {}\n", or_dash(first), or_dash(second))
+}
+
+// a dash stands for absent
+fn or_dash<T: ToString>(value: Option<T>) -> String {
+    value.map_or("-".to_string(), |value| value.to_string())
+}
+
+fn kernel_call_text(call: Option<KernelCall>) -> String {
+    match call {
+        Some(KernelCall::ActivateTask(task)) => format!("A{task}"),
+        Some(KernelCall::ChainTask(task)) => format!("C{task}"),
+        Some(KernelCall::TerminateTask) => "T".to_string(),
+        None => "-".to_string(),
+    }
+}
+
+fn late_text(late: &[u8]) -> String {
+    let tasks: Vec<String> = late.iter().map(u8::to_string).collect();
+    or_dash(Some(tasks.join(",")).filter(|text| !text.is_empty()))
+}
+
+// a table that was read, written again, gives the same bytes
+fn same_table(bytes: &[u8], lines: &[Line], after: usize) -> Result<(), String> {
+    let mut buffer = vec![0; after];
+    match write_table(lines, &mut buffer) {
+        Ok(length) if length == after && buffer == bytes[..after] => Ok(()),
+        _ => Err("the table is written otherwise than it was read".to_string()),
+    }
+}
+
+// so does a record
+fn same_record(
+    bytes: &[u8],
+    place: usize,
+    after: usize,
+    preceding: u64,
+    tick: u64,
+    call: Call,
+) -> Result<(), String> {
+    let mut buffer = vec![0; after - place];
+    match write_record(preceding, tick, call, &mut buffer) {
+        Ok(length) if length == buffer.len() && buffer == bytes[place..after] => Ok(()),
+        _ => Err(format!(
+            "the record at {place} is written otherwise than it was read"
+        )),
+    }
+}
+
+/// Layer, kernel, plain scheduler and history beside each other.
+pub struct Heads {
+    lines: Vec<Line>,
+    layer: Layer,
+    kernel: Kernel,
+    plain: Plain,
+    history: History,
+    // the newly late tasks of each accepted call
+    late: Vec<Vec<u8>>,
+}
+
+impl Heads {
+    pub fn fresh(lines: &[Line]) -> Heads {
+        Heads {
+            lines: lines.to_vec(),
+            layer: Layer::fresh(lines),
+            kernel: Kernel::new(lines),
+            plain: Plain::new(lines),
+            history: History::new(lines.len()),
+            late: Vec::new(),
+        }
+    }
+
+    /// The line of a call.
+    pub fn call(&mut self, tick: u64, call: Call, met: &mut Met) -> Result<String, String> {
+        let ran = self.kernel.running();
+        let answer = self.layer.call(tick, call);
+        if let Some(kernel_call) = answer.kernel_call {
+            self.kernel.serve(kernel_call)?;
+        }
+        let plain_result = self.plain.call(tick, call);
+        if plain_result != answer.result {
+            return Err(format!(
+                "at tick {tick} {call:?} is {} for the layer, {plain_result} for the plain scheduler",
+                answer.result
+            ));
+        }
+        if answer.result == 0 {
+            self.history.accepted(tick);
+            self.late.push(answer.late.clone());
+            if let (Call::Terminate | Call::Chain(_), Some(job)) = (call, ran) {
+                self.history.ends(job.task, job.nth)?;
+            }
+            if let Call::Activate(task) | Call::Chain(task) = call {
+                self.history.begins(task, self.lines[usize::from(task)].d);
+            }
+        }
+        met.call(call, &answer, &self.layer, &self.kernel);
+        let running = self.same_running(tick, call)?;
+        self.same_pending(tick, call)?;
+        Ok(line(tick, &answer, running))
+    }
+
+    // kernel, plain scheduler and layer name the same job: task, deadline, which activation
+    fn same_running(&self, tick: u64, call: Call) -> Result<Option<(u8, u64)>, String> {
+        let of_kernel = match self.kernel.running() {
+            Some(job) => {
+                let due = self.history.due(job.task, job.nth);
+                let due = due.ok_or_else(|| "the kernel runs a job never made".to_string())?;
+                Some((job.task, due, job.nth))
+            }
+            None => None,
+        };
+        let of_plain = self.plain.running();
+        let of_plain = of_plain.map(|job| (job.task, job.due, job.nth));
+        let of_layer = self.layer.list().first();
+        let of_layer = of_layer.map(|job| (job.task, job.due, job.nth));
+        if of_kernel != of_plain || of_kernel != of_layer {
+            return Err(format!(
+                "after {call:?} at tick {tick} the kernel runs {of_kernel:?}, the plain scheduler {of_plain:?}, the layer's first is {of_layer:?}"
+            ));
+        }
+        Ok(of_kernel.map(|(task, due, _)| (task, due)))
+    }
+
+    // the plain scheduler's jobs, in order, are the layer's list
+    fn same_pending(&self, tick: u64, call: Call) -> Result<(), String> {
+        let mut jobs = self.plain.jobs().to_vec();
+        jobs.sort_unstable();
+        let plain = jobs.iter().map(|job| (job.task, job.due, job.nth));
+        let list = self.layer.list().iter();
+        if plain.eq(list.map(|job| (job.task, job.due, job.nth))) {
+            Ok(())
+        } else {
+            Err(format!(
+                "after {call:?} at tick {tick} other jobs are pending for the plain scheduler than for the layer"
+            ))
+        }
+    }
+
+    /// Late jobs and counts that follow from the history are the layer's.
+    pub fn same_in_the_end(&mut self) -> Result<(), String> {
+        let (late, counts) = self.history.judge();
+        if late != self.late {
+            return Err("the history has other late jobs than the layer".to_string());
+        }
+        if counts != self.layer.counts() {
+            return Err("the history has other counts than the layer".to_string());
+        }
+        Ok(())
+    }
+
+    pub fn layer(&self) -> &Layer {
+        &self.layer
+    }
+}
+
+// tick, result, running task, its deadline, kernel call, newly late tasks
+fn line(tick: u64, answer: &Answer, running: Option<(u8, u64)>) -> String {
+    format!(
+        "{tick} {} {} {} {} {}\n",
+        answer.result,
+        or_dash(running.map(|(task, _)| task)),
+        or_dash(running.map(|(_, due)| due)),
+        kernel_call_text(answer.kernel_call),
+        late_text(&answer.late)
+    )
+}
