@@ -1,5 +1,6 @@
 /* The run of document 01 through the calls for C, printed as document 01 prints it; calls that are refused, each of
- * which leaves the state as it was; a chain; tables that are refused. Freestanding, for x86-64 Linux. */
+ * which leaves the state as it was; a chain; why tasks run or wait; tables that are refused. Freestanding, for x86-64
+ * Linux. */
 #include "head.h"
 
 /* ---- what stands in for a C library */
@@ -91,6 +92,27 @@ static void put_line(uint64_t tick, struct HeadAnswer a) {
     put('\n');
 }
 
+/* ---- why a task's first pending job runs or waits */
+
+static void put_why(uint8_t task, struct HeadWhy w) {
+    put_text("task ");
+    put_number(task);
+    switch (w.reason) {
+    case HEAD_NONE_PENDING: put_text(" has no pending job\n"); return;
+    case HEAD_IT_RUNS: put_text(" is running\n"); return;
+    case HEAD_NO_REASON:
+        put_text(" is refused: ");
+        put_number(w.result);
+        put('\n');
+        return;
+    default: put_text(" is waiting: task ");
+    }
+    put_number(w.task);
+    put_text(w.reason == HEAD_EARLIER ? " is running with the earlier deadline " : " was there first and is running with the same deadline ");
+    put_number(w.due.ticks);
+    put('\n');
+}
+
 /* ---- the state, field by field */
 
 static bool same_table(const struct HeadTable *x, const struct HeadTable *y) {
@@ -127,6 +149,7 @@ static void tick(uint64_t t) { put_line(t, head_tick(&s, (struct HeadTick){t}));
 static void activate(uint64_t t, uint8_t task) { put_line(t, head_activate(&s, (struct HeadTick){t}, task)); }
 static void terminate(uint64_t t) { put_line(t, head_terminate(&s, (struct HeadTick){t})); }
 static void chain(uint64_t t, uint8_t task) { put_line(t, head_chain(&s, (struct HeadTick){t}, task)); }
+static void why(uint8_t task) { put_why(task, head_why(&s, task)); }
 
 /* the table P */
 static const struct HeadLine P[3] = {
@@ -209,6 +232,27 @@ static void chains(void) {
     put_state();
 }
 
+/* Table P again: task 0 has no job, task 1 runs, task 2 waits for the same deadline, and there is no task 3; then task 1
+ * waits for an earlier deadline. The state is compared after the questions. */
+static void questions(void) {
+    put_text("asked\n");
+    if (!checked(P, 3)) return;
+    activate(0, 1);
+    activate(0, 2);
+    struct HeadState before = s;
+    why(0);
+    why(1);
+    why(2);
+    why(3);
+    bool unchanged = same(&before, &s);
+
+    activate(1, 0);
+    before = s;
+    why(1);
+    unchanged &= same(&before, &s);
+    put_text(unchanged ? "state unchanged\n" : "state CHANGED\n");
+}
+
 /* Each line below is of a refused call; the state is compared after each. */
 static void refusals(void) {
     put_text("refused\n");
@@ -248,6 +292,7 @@ __attribute__((noreturn, used)) static void begin(void) {
     run();
     refusals();
     chains();
+    questions();
     tables();
     ask(1, 1, (long)text, (long)used);
     ask(60, 0, 0, 0);

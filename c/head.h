@@ -8,6 +8,8 @@
  *                     makes none. head_terminate and head_chain are called in the job that runs, at its
  *                     end: TerminateTask and ChainTask end the task that calls them. A task number is a
  *                     line's place in the table; which task of the kernel that is, the caller knows.
+ *   head_why          with that state, between these: why a task's first pending job runs or waits. It takes no
+ *                     tick, names no kernel call and leaves the state as it is.
  *
  * A call asks for one thing: the state was handed out by head_check with number 0, and nothing but these calls
  * has changed it since. Of any other state nothing is promised, not even that a call stays within it. Go on from
@@ -164,6 +166,34 @@ struct HeadChecked {
     struct HeadVerdict verdict;
 };
 
+/* HeadWhy.reason. The first pending job is the first in list order. Where the result is 0 exactly one of 1 to 4
+ * fits.
+ *
+ *  No. | given exactly when                                                | task and due
+ *  ----+-------------------------------------------------------------------+-------------------
+ *    0 | the question is refused                                           | 0
+ *    1 | the task has no pending job                                       | 0
+ *    2 | its first pending job runs                                        | 0
+ *    3 | it waits: the running job has an earlier deadline                 | the running job's
+ *    4 | it waits: the running job has the same deadline and was there     | the running job's
+ *      | first                                                             |
+ */
+enum {
+    HEAD_NO_REASON = 0,
+    HEAD_NONE_PENDING = 1,
+    HEAD_IT_RUNS = 2,
+    HEAD_EARLIER = 3,
+    HEAD_THERE_FIRST = 4,
+};
+
+/* Why a task's first pending job runs or waits. */
+struct HeadWhy {
+    uint8_t result;      /* 3 where the task number has no line; 0 otherwise */
+    uint8_t reason;      /* one of the numbers above */
+    uint8_t task;        /* the running job's for reasons 3 and 4, or 0 */
+    struct HeadTick due; /* its deadline for reasons 3 and 4, or 0 */
+};
+
 /* Checks a task table of `count` lines, which it reads and does not change; of more than 32 it reads none.
  * `lines` is not null where the count is 0 either. */
 struct HeadChecked head_check(const struct HeadLine *lines, size_t count);
@@ -182,6 +212,10 @@ struct HeadAnswer head_terminate(struct HeadState *s, struct HeadTick at);
 /* The running job ends, a new job of `task` goes into the list at the same tick, then as for head_terminate.
  * Refused with 8, 2, 3, 4, 9. */
 struct HeadAnswer head_chain(struct HeadState *s, struct HeadTick at, uint8_t task);
+
+/* Why the first pending job of `task`, in list order, runs or waits. Every field of the state stays as it was.
+ * Refused with 3. */
+struct HeadWhy head_why(const struct HeadState *s, uint8_t task);
 
 #ifdef __cplusplus
 }
@@ -205,6 +239,8 @@ HEAD_HOLDS(offsetof(struct HeadAnswer, runs) == 1 && offsetof(struct HeadAnswer,
 HEAD_HOLDS(offsetof(struct HeadAnswer, due) == 8 && offsetof(struct HeadAnswer, call) == 16, "HeadAnswer");
 HEAD_HOLDS(offsetof(struct HeadAnswer, called) == 17 && offsetof(struct HeadAnswer, late) == 18, "HeadAnswer");
 HEAD_HOLDS(sizeof(struct HeadAnswer) == 56, "HeadAnswer");
+HEAD_HOLDS(sizeof(struct HeadWhy) == 16 && offsetof(struct HeadWhy, reason) == 1, "HeadWhy");
+HEAD_HOLDS(offsetof(struct HeadWhy, task) == 2 && offsetof(struct HeadWhy, due) == 8, "HeadWhy");
 HEAD_HOLDS(sizeof(struct HeadVerdict) == 4, "HeadVerdict");
 HEAD_HOLDS(sizeof(struct HeadChecked) == 1568 && offsetof(struct HeadChecked, verdict) == 1560, "HeadChecked");
 #undef HEAD_HOLDS

@@ -187,17 +187,61 @@ static void call_both(struct record r, enum what w, unsigned jobs, bool counted)
     if (counted) must(is_meant(w, jobs, r, &a), what_names[w]);
 }
 
-static void in_place(enum what w, unsigned jobs) {
+/* From the check on. */
+static void call_all(const struct record *calls, unsigned n, enum what w, unsigned jobs, bool counted) {
     struct line lines[PLACES];
     struct HeadLine head_lines[PLACES];
-    struct record calls[PLACES + 1];
-    unsigned n = calls_for(w, jobs, calls);
     table(lines);
     for (unsigned i = 0; i < PLACES; i++) head_lines[i] = (struct HeadLine){{lines[i].deadline}, lines[i].priority, lines[i].limit};
     struct HeadChecked c = head_check(head_lines, PLACES);
     must(c.verdict.number == 0 && sched_check(&base, lines, PLACES).number == 0, "check");
     head = c.state;
-    for (unsigned i = 0; i < n; i++) call_both(calls[i], w, jobs, i + 1 == n);
+    for (unsigned i = 0; i < n; i++) call_both(calls[i], w, jobs, counted && i + 1 == n);
+}
+
+/* Both are asked of every task number, with a line or without. */
+static void same_reasons(void) {
+    for (unsigned task = 0; task <= UINT8_MAX; task++) {
+        struct HeadWhy h = head_why(&head, (uint8_t)task);
+        struct why y = sched_why(&base, (uint8_t)task);
+        must(h.result == y.result && h.reason == y.reason && h.task == y.task && h.due.ticks == y.due, "why");
+    }
+}
+
+static void in_place(enum what w, unsigned jobs) {
+    struct record calls[PLACES + 1];
+    unsigned n = calls_for(w, jobs, calls);
+    call_all(calls, n, w, jobs, true);
+    same_reasons();
+}
+
+/* ---- the question for C, on a state where it stands: why a task's first pending job runs or waits */
+
+enum asked { JOB_FIRST, JOB_LAST, NO_JOB, ASKED };
+static const char *const asked_names[ASKED] = {"why, job is first", "why, job is last", "why, none pending"};
+
+/* What the name says: the last job waits for one of its own deadline, and of all 32 for one of an earlier deadline. */
+static enum reason reason_meant(enum asked q, unsigned jobs) {
+    if (q == NO_JOB) return NONE_PENDING;
+    if (q == JOB_FIRST || jobs == 1) return IT_RUNS;
+    return jobs < PLACES ? THERE_FIRST : EARLIER_RUNS;
+}
+
+/* In a list that each job went last in. Where 32 jobs are pending no task is without one. */
+static void why_in_place(enum asked q, unsigned jobs) {
+    struct record calls[PLACES];
+    struct HeadWhy h;
+    struct why y;
+    if (q == NO_JOB && jobs == PLACES) return;
+    unsigned n = fill(calls, jobs);
+    call_all(calls, n, ACTIVATE_LAST, jobs, false);
+    uint8_t task = q == JOB_FIRST ? calls[0].task : q == JOB_LAST ? calls[n - 1].task : 0;
+    next('+', 1, "place", asked_names[q], jobs, "ours");
+    COUNTED(h = head_why(&head, task));
+    next('+', 1, "place", asked_names[q], jobs, "C");
+    COUNTED(y = sched_why(&base, task));
+    must(h.reason == reason_meant(q, jobs) && y.reason == h.reason, asked_names[q]);
+    same_reasons();
 }
 
 /* ---- a number on tape: so many numbers, and twice as many */
@@ -268,19 +312,9 @@ static void mixed(unsigned records) {
         struct answer a;
         struct record r = {now + draw(base.count > 6 ? 16 : 48), 0, 0};
         uint32_t die = draw(16);
-        if (die < 7) {
-            r = (struct record){r.tick, ACTIVATE, (uint8_t)draw(count)};
-            sched_activate(&base, r.tick, r.task, &a);
-        } else if (die < 12) {
-            r.kind = TERMINATE;
-            sched_terminate(&base, r.tick, &a);
-        } else if (die < 14) {
-            r = (struct record){r.tick, CHAIN, (uint8_t)draw(count)};
-            sched_chain(&base, r.tick, r.task, &a);
-        } else {
-            r.kind = TICK;
-            sched_tick(&base, r.tick, &a);
-        }
+        r.kind = die < 7 ? ACTIVATE : die < 12 ? TERMINATE : die < 14 ? CHAIN : TICK;
+        if (r.kind == ACTIVATE || r.kind == CHAIN) r.task = (uint8_t)draw(count);
+        make_call(&base, &r, &a);
         if (a.result != 0 && draw(8) != 0) {
             base = before;
             continue;
@@ -319,6 +353,9 @@ int main(int argc, char **argv) {
             by_value(w, sizes[i]);
             in_place(w, sizes[i]);
         }
+    }
+    for (unsigned q = 0; q < ASKED; q++) {
+        for (unsigned i = 0; i < sizeof sizes / sizeof sizes[0]; i++) why_in_place(q, sizes[i]);
     }
     numbers(1);
     numbers(2);

@@ -22,12 +22,7 @@ uint64_t base_calls(const uint8_t *tape, size_t length) {
     struct record r = {0};
     while (read_record(t, &at, r.tick, &r) == 0) {
         struct answer a;
-        switch (r.kind) {
-        case TICK: sched_tick(&s, r.tick, &a); break;
-        case ACTIVATE: sched_activate(&s, r.tick, r.task, &a); break;
-        case TERMINATE: sched_terminate(&s, r.tick, &a); break;
-        default: sched_chain(&s, r.tick, r.task, &a); break;
-        }
+        make_call(&s, &r, &a);
         seen ^= r.tick ^ answer_in(&a);
     }
     return seen;

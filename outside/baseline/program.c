@@ -1,4 +1,7 @@
-/* The program of document 01: a tape from standard input, each decision to standard output. */
+/* A tape from standard input, to standard output:
+ *
+ *   program               each decision, as document 01 prints it
+ *   program why           for each task why its first pending job runs or waits, after all of the tape's calls */
 #include "sched.h"
 #include "tape.h"
 
@@ -65,6 +68,19 @@ static char *put_answer(char *to, uint64_t tick, const struct answer *a) {
     return to;
 }
 
+static char *put_why(char *to, uint8_t task, struct why w) {
+    to = put(to, "task ");
+    to = put_decimal(to, task);
+    if (w.reason == NONE_PENDING) return put(to, " has no pending job\n");
+    if (w.reason == IT_RUNS) return put(to, " is running\n");
+    to = put(to, " is waiting: task ");
+    to = put_decimal(to, w.task);
+    to = put(to, w.reason == EARLIER_RUNS ? " is running with the earlier deadline " : " was there first and is running with the same deadline ");
+    to = put_decimal(to, w.due);
+    *to++ = '\n';
+    return to;
+}
+
 static char *put_bad_tape(char *to, int number, size_t place) {
     to = put(to, "tape ");
     to = put_decimal(to, (uint64_t)number);
@@ -87,36 +103,54 @@ static char *put_bad_table(char *to, struct verdict v) {
 
 /* ---- a tape */
 
-static char *print(char *to, struct tape t) {
+/* The table is read and checked. Where it isn't accepted that is the one line. */
+static char *open_tape(char *to, struct tape t, struct sched *s, size_t *at) {
     struct line lines[PLACES];
-    struct sched s;
-    size_t count, at;
+    size_t count;
     if (t.length > LONGEST_TAPE) return put_bad_tape(to, 26, LONGEST_TAPE);
-    int refusal = read_table(t, &at, lines, &count);
+    int refusal = read_table(t, at, lines, &count);
     if (refusal != 0) return put_bad_tape(to, refusal, 0);
-    struct verdict v = sched_check(&s, lines, count);
-    if (v.number != 0) return put_bad_table(to, v);
+    struct verdict v = sched_check(s, lines, count);
+    return v.number == 0 ? to : put_bad_table(to, v);
+}
 
-    to = put(to, "tick res run due call late\n");
-    struct record r = {0};
-    while ((refusal = read_record(t, &at, r.tick, &r)) == 0) {
-        struct answer a;
-        switch (r.kind) {
-        case TICK: sched_tick(&s, r.tick, &a); break;
-        case ACTIVATE: sched_activate(&s, r.tick, r.task, &a); break;
-        case TERMINATE: sched_terminate(&s, r.tick, &a); break;
-        default: sched_chain(&s, r.tick, r.task, &a); break;
-        }
-        to = put_answer(to, r.tick, &a);
-    }
+/* The records are gone through: why they end, if that is not the tape's end. */
+static char *put_end(char *to, int refusal, size_t at) {
     return refusal == TAPE_END ? to : put_bad_tape(to, refusal, at);
 }
 
-int main(void) {
-    size_t length = 0;
+static char *put_decisions(char *to, struct tape t, struct sched *s, size_t at) {
+    struct record r = {0};
+    int refusal;
+    to = put(to, "tick res run due call late\n");
+    while ((refusal = read_record(t, &at, r.tick, &r)) == 0) {
+        struct answer a;
+        make_call(s, &r, &a);
+        to = put_answer(to, r.tick, &a);
+    }
+    return put_end(to, refusal, at);
+}
+
+static char *put_reasons(char *to, struct tape t, struct sched *s, size_t at) {
+    struct record r = {0};
+    int refusal;
+    while ((refusal = read_record(t, &at, r.tick, &r)) == 0) {
+        struct answer a;
+        make_call(s, &r, &a);
+    }
+    for (uint8_t task = 0; task < s->lines; task++) to = put_why(to, task, sched_why(s, task));
+    return put_end(to, refusal, at);
+}
+
+int main(int argc, char **argv) {
+    bool why = argc == 2 && strcmp(argv[1], "why") == 0;
+    size_t length = 0, at;
     ssize_t n;
     while (length < sizeof input && (n = read(STDIN_FILENO, input + length, sizeof input - length)) > 0) length += (size_t)n;
-    const char *end = print(output, (struct tape){input, length});
+    struct tape t = {input, length};
+    struct sched s;
+    char *end = open_tape(output, t, &s, &at);
+    if (end == output) end = why ? put_reasons(end, t, &s, at) : put_decisions(end, t, &s, at);
     for (const char *from = output; from < end; from += n) {
         n = write(STDOUT_FILENO, from, (size_t)(end - from));
         if (n < 0) return 1;

@@ -165,3 +165,15 @@ void sched_chain(struct sched *s, uint64_t at, uint8_t task, struct answer *a) {
     t->pending++;
     settle(s, a);
 }
+
+/* ---- the question */
+
+/* A task that has a pending job has one in the list, so the search needs no end. */
+struct why sched_why(const struct sched *s, uint8_t task) {
+    if (task >= s->lines) return (struct why){.result = 3};
+    if (s->tasks[task].pending == 0) return (struct why){.reason = NONE_PENDING};
+    const struct job *first = s->jobs, *job = first;
+    while (job->task != task) job++;
+    if (job == first) return (struct why){.reason = IT_RUNS};
+    return (struct why){first->due, 0, first->due < job->due ? EARLIER_RUNS : THERE_FIRST, first->task};
+}

@@ -66,6 +66,16 @@ struct answer {
     uint8_t late_tasks[PLACES];
 };
 
+enum reason { NO_REASON, NONE_PENDING, IT_RUNS, EARLIER_RUNS, THERE_FIRST };
+
+/* Why a task's first pending job runs or waits. Of what is absent the fields are 0. */
+struct why {
+    uint64_t due; /* of the running job, where the task waits for it */
+    uint8_t result;
+    uint8_t reason; /* enum reason */
+    uint8_t task;
+};
+
 /* The check. A fresh state is handed out where the number is 0; otherwise an empty one of no lines. */
 struct verdict sched_check(struct sched *s, const struct line *lines, size_t count);
 
@@ -73,5 +83,8 @@ void sched_tick(struct sched *s, uint64_t at, struct answer *a);
 void sched_activate(struct sched *s, uint64_t at, uint8_t task, struct answer *a);
 void sched_terminate(struct sched *s, uint64_t at, struct answer *a);
 void sched_chain(struct sched *s, uint64_t at, uint8_t task, struct answer *a);
+
+/* The question: no tick, and nothing changes. */
+struct why sched_why(const struct sched *s, uint8_t task);
 
 #endif

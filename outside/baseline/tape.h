@@ -1,4 +1,4 @@
-/* The event tape of document 01. Each function gives 0 or the number that it refuses with. */
+/* The event tape of document 01. Reading and writing give 0 or the number that they refuse with. */
 #ifndef TAPE_H
 #define TAPE_H
 
@@ -30,5 +30,15 @@ int read_table(struct tape t, size_t *at, struct line lines[PLACES], size_t *cou
 /* Writing starts at the buffer's first byte, and gives the count of the bytes. */
 int write_number(uint64_t value, uint8_t *buf, size_t room, size_t *count);
 int write_record(uint64_t preceding, struct record r, uint8_t *buf, size_t room, size_t *count);
+
+/* A record's call. */
+static inline void make_call(struct sched *s, const struct record *r, struct answer *a) {
+    switch (r->kind) {
+    case TICK: sched_tick(s, r->tick, a); break;
+    case ACTIVATE: sched_activate(s, r->tick, r->task, a); break;
+    case TERMINATE: sched_terminate(s, r->tick, a); break;
+    default: sched_chain(s, r->tick, r->task, a); break;
+    }
+}
 
 #endif

@@ -1,4 +1,4 @@
-# table.awk COSTS: the costs as tables of plain text, or with -v markdown=1 of Markdown.
+# table.awk COSTS: the costs as tables of plain text, or with -v markdown=1 of Markdown. A dash stands where there is none.
 BEGIN { FS = "[/\t]" }
 {
     if (!(($1, $2) in known)) { known[$1, $2] = 1; row[$1, ++rows[$1]] = $2 }
@@ -40,6 +40,7 @@ function table(group, title, of, sizes, unit, n, i, k, size, line, head, ours, t
             ours = cost[group, line[0], size[k], "ours"]
             theirs = cost[group, line[0], size[k], "C"]
             if (unit) line[k] = sprintf("%.1f", ours / unit)
+            else if (ours == "") line[3 * k - 2] = line[3 * k - 1] = line[3 * k] = "-"
             else { line[3 * k - 2] = sprintf("%.0f", ours); line[3 * k - 1] = sprintf("%.0f", theirs); line[3 * k] = sprintf("%.1f", ours / theirs) }
         }
         cells(line, 1 + each * n)

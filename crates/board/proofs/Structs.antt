@@ -1,4 +1,4 @@
--- The structs that the walks are over: a line and the copies of lines, what the check gives, the scheduler state, an answer, and what a step gives. Assumes nothing.
+-- The structs that the walks are over: a line and the copies of lines, what the check gives, the scheduler state, an answer, what a step gives, and what a question is told. Assumes nothing.
 use denote.Enum.Laws as EL
 use Rattle.board.proofs.Data.{Data, Pair}
 use Rattle.board.proofs.Relay.{Result}
@@ -6,6 +6,8 @@ use Rattle.rules.proofs.Answer as A
 use Rattle.rules.proofs.Answer.Laws as A′
 use Rattle.rules.proofs.Line as L
 use Rattle.rules.proofs.Line.Laws as L′
+use Rattle.rules.proofs.Why as Y
+use Rattle.rules.proofs.Why.Laws as Y′
 use Rattle.rules.proofs.Written as W
 use Rattle.rules.proofs.Written.Laws as W′
 use Rattle.table.proofs.TaskTable as T
@@ -41,3 +43,6 @@ stepped = record { name = N.struct .name; D = N.the-type .D; state = λ r. r .st
 
 abbrev pub written : Result
 written = record { row = W.the-row; mir = W′.mir; typed = λ 𝓤 H A G r v p. EL.lawful W.the-type W′.the-laws 𝓤 H A G tt .typed r _ p .0 }
+
+abbrev pub told : Result
+told = record { row = Y.the-row; mir = Y′.mir; typed = λ 𝓤 H A G r v p. EL.lawful Y.the-type Y′.the-laws 𝓤 H A G tt .typed r _ p .0 }

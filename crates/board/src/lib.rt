@@ -1,15 +1,16 @@
-// What a board's code in Rattle calls: the check of lent lines, the calls on the scheduler state of a recorder head, updated where it stands, and the table of lent lines on tape.
+// What a board's code in Rattle calls: the check of lent lines, the calls on the scheduler state of a recorder head, updated where it stands, why a task waits, and the table of lent lines on tape.
 // The bodies are thin: what they pass on is by value, and covered.
 ghost use mathlib.Core.Path.{_≡_};
 ghost use Rattle.rules.specs.declared.Call.the-variants.{Wait, Activate, Terminate, Chain};
 ghost use Rattle.rules.specs.Tape.{TableWrote};
 ghost use Rattle.tape.specs.Tables.{copied};
-ghost use Rattle.scheduler.specs.State.{Handed};
+ghost use Rattle.scheduler.specs.State.{Handed, whyOf};
 ghost use Rattle.board.specs.Lent.{LinesChecked, Left};
 ghost use Rattle.board.specs.Claims.{Claims};
 use rules::Answer;
 use rules::Line;
 use rules::Tick;
+use rules::Why;
 use rules::Written;
 use scheduler::Checked;
 use scheduler::State;
@@ -71,6 +72,16 @@ pub fn chain(s: &mut State, at: Tick, task: u8) -> Answer
     let next = scheduler::chain(*s, at, task);
     *s = next.state;
     next.answer
+}
+
+// ---- the question
+
+// Why a task's first pending job does or does not run. The state is only read.
+pub fn why(s: &State, task: u8) -> Why
+    requires { ⌜ Handed (now s) ⌝ }
+    ensures { λ r. ⌜ r ≡ whyOf (now (s .entry)) task ⌝ }
+{
+    scheduler::why(*s, task)
 }
 
 // ---- the table on tape

@@ -15,13 +15,17 @@ use Rattle.rules.specs.declared.Named.{Named}
 use Rattle.rules.specs.declared.Named.the-variants.{NoneNamed, TheLine, BothLines}
 use Rattle.rules.specs.declared.Answer.{Answer}
 use Rattle.rules.specs.declared.Verdict.{Verdict}
+use Rattle.rules.specs.declared.Reason.the-variants.{NonePending, ItRuns, Earlier, ThereFirst}
+use Rattle.rules.specs.declared.Why.{Why}
+use Rattle.rules.specs.declared.Why.the-variants.{Because, Refused}
 use Rattle.rules.specs.Layer.{isReleased}
 use Rattle.scheduler.specs.declared.State.{State}
 use Rattle.head.specs.declared.HeadJob.{HeadJob}
 use Rattle.head.specs.declared.HeadState.{HeadState}
 use Rattle.head.specs.declared.HeadAnswer.{HeadAnswer}
 use Rattle.head.specs.declared.HeadVerdict.{HeadVerdict}
-use Rattle.head.specs.Placed.{placedJob, phaseIn, jobIn, placed, stateIn, runsIn, taskIn, dueIn, numberOf, calledOf, answerFor, verdictOn, verdictFor}
+use Rattle.head.specs.declared.HeadWhy.{HeadWhy}
+use Rattle.head.specs.Placed.{placedJob, phaseIn, jobIn, placed, stateIn, runsIn, taskIn, dueIn, numberOf, calledOf, answerFor, verdictOn, verdictFor, whyFor}
 
 -- ---- the state
 
@@ -109,3 +113,25 @@ number-same v = go (v .lines)
     go NoneNamed = refl
     go (TheLine i) = refl
     go (BothLines i j) = refl
+
+-- ---- a question's answer
+
+abbrev reasonBack : ℕ → HeadWhy → Why
+reasonBack zero w = Refused (w .result)
+reasonBack (suc zero) w = Because NonePending
+reasonBack (suc (suc zero)) w = Because ItRuns
+reasonBack (suc (suc (suc zero))) w = Because (Earlier (w .task) (w .due))
+reasonBack (suc (suc (suc (suc k)))) w = Because (ThereFirst (w .task) (w .due))
+
+abbrev whyBack : HeadWhy → Why
+whyBack w = reasonBack (w .reason) w
+
+why-back : (w : Why) → whyBack (whyFor w) ≡ w
+why-back (Refused k) = refl
+why-back (Because NonePending) = refl
+why-back (Because ItRuns) = refl
+why-back (Because (Earlier m t)) = refl
+why-back (Because (ThereFirst m t)) = refl
+
+pub whys-apart : (v w : Why) → whyFor v ≡ whyFor w → v ≡ w
+whys-apart v w e = sym (why-back v) ∙ ap whyBack e ∙ why-back w

@@ -15,7 +15,7 @@ use Rattle.head.specs.declared.HeadChecked.{HeadChecked}
 use Rattle.head.specs.Placed.{placed, stateIn, answerFor}
 use Rattle.head.specs.Calls.{headStep, Left}
 use Rattle.head.specs.Claims.{OneChecked, OneLeft, GoesAsRuled, Claims}
-use Rattle.head.proofs.Back.{state-back, placed-back, answers-apart, verdicts-apart, number-same}
+use Rattle.head.proofs.Back.{state-back, placed-back, answers-apart, verdicts-apart, whys-apart, number-same}
 
 one-checked : OneChecked
 one-checked xs r r′ c c′ = only (c .gives) (c′ .gives)
@@ -63,6 +63,7 @@ the-claims =
       places-back = placed-back;
       answers-apart = answers-apart;
       verdicts-apart = verdicts-apart;
+      whys-apart = whys-apart;
       one-checked = one-checked;
       one-left = one-left;
       goes-as-ruled = goes-as-ruled;

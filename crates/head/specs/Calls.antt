@@ -1,4 +1,5 @@
 -- What the check and the calls promise a C caller: what the scheduler's give for the state that is read back. Assumes nothing.
+use Prim.Native.Nat.{ℕ}
 use mathlib.Core.Path.{_≡_}
 use mathlib.Core.List.{List}
 use Rattle.rules.specs.declared.Call.{Call}
@@ -6,12 +7,13 @@ use Rattle.rules.specs.declared.Line.{Line}
 use Rattle.table.specs.declared.TaskTable.{TaskTable}
 use Rattle.scheduler.specs.declared.Checked.{Checked}
 use Rattle.scheduler.specs.declared.Stepped.{Stepped}
-use Rattle.scheduler.specs.State.{checkedFor, checkedOf, stepOf}
+use Rattle.scheduler.specs.State.{checkedFor, checkedOf, stepOf, whyOf}
 use Rattle.head.specs.declared.HeadState.{HeadState}
 use Rattle.head.specs.declared.HeadAnswer.{HeadAnswer}
 use Rattle.head.specs.declared.HeadChecked.{HeadChecked}
 use Rattle.head.specs.declared.HeadStepped.{HeadStepped}
-use Rattle.head.specs.Placed.{placed, stateIn, HeadHanded, answerFor, verdictFor}
+use Rattle.head.specs.declared.HeadWhy.{HeadWhy}
+use Rattle.head.specs.Placed.{placed, stateIn, HeadHanded, answerFor, verdictFor, whyFor}
 
 -- ---- the check
 
@@ -50,3 +52,9 @@ pub record Left (p : HeadState) (e : Call) (a : HeadAnswer) (t : HeadState) : Ty
   pub refused : (a .result ≡ 0 → ⊥) → t ≡ p
   -- what is left is handed on
   pub handed : HeadHanded t
+
+-- ---- the question
+
+-- what the scheduler's is answered with, for the state that is read back
+unfoldable pub headWhy : HeadState → ℕ → HeadWhy
+headWhy p n = whyFor (whyOf (stateIn p) n)

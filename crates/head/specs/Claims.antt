@@ -5,6 +5,7 @@ use Rattle.rules.specs.declared.Answer.{Answer}
 use Rattle.rules.specs.declared.Call.{Call}
 use Rattle.rules.specs.declared.Line.{Line}
 use Rattle.rules.specs.declared.Verdict.{Verdict}
+use Rattle.rules.specs.declared.Why.{Why}
 use Rattle.rules.specs.Outcome.{One, OneWith}
 use Rattle.scheduler.specs.declared.State.{State}
 use Rattle.scheduler.specs.Claims.{Goes}
@@ -12,7 +13,7 @@ use Rattle.board.specs.Claims.{Went}
 use Rattle.head.specs.declared.HeadState.{HeadState}
 use Rattle.head.specs.declared.HeadAnswer.{HeadAnswer}
 use Rattle.head.specs.declared.HeadChecked.{HeadChecked}
-use Rattle.head.specs.Placed.{placed, stateIn, answerFor, verdictFor}
+use Rattle.head.specs.Placed.{placed, stateIn, answerFor, verdictFor, whyFor}
 use Rattle.head.specs.Calls.{LinesChecked, Left}
 
 -- ---- nothing is lost, and nothing is made up
@@ -28,6 +29,9 @@ AnswersApart = (a b : Answer) → answerFor a ≡ answerFor b → a ≡ b
 
 abbrev pub VerdictsApart : Type 0
 VerdictsApart = (v w : Verdict) → verdictFor v ≡ verdictFor w → v ≡ w
+
+abbrev pub WhysApart : Type 0
+WhysApart = (v w : Why) → whyFor v ≡ whyFor w → v ≡ w
 
 -- ---- one outcome
 
@@ -57,6 +61,7 @@ pub record Claims : Type 0 where
   pub places-back : PlacesBack
   pub answers-apart : AnswersApart
   pub verdicts-apart : VerdictsApart
+  pub whys-apart : WhysApart
   pub one-checked : OneChecked
   pub one-left : OneLeft
   -- demands 2 and 3, for whole runs

@@ -14,6 +14,10 @@ use Rattle.rules.specs.declared.Named.{Named}
 use Rattle.rules.specs.declared.Named.the-variants.{NoneNamed, TheLine, BothLines}
 use Rattle.rules.specs.declared.Answer.{Answer}
 use Rattle.rules.specs.declared.Verdict.{Verdict}
+use Rattle.rules.specs.declared.Reason.{Reason}
+use Rattle.rules.specs.declared.Reason.the-variants.{NonePending, ItRuns, Earlier, ThereFirst}
+use Rattle.rules.specs.declared.Why.{Why}
+use Rattle.rules.specs.declared.Why.the-variants.{Because, Refused}
 use Rattle.rules.specs.Layer.{isReleased}
 use Rattle.scheduler.specs.declared.State.{State}
 use Rattle.scheduler.specs.State.{Handed}
@@ -21,6 +25,7 @@ use Rattle.head.specs.declared.HeadJob.{HeadJob}
 use Rattle.head.specs.declared.HeadState.{HeadState}
 use Rattle.head.specs.declared.HeadAnswer.{HeadAnswer}
 use Rattle.head.specs.declared.HeadVerdict.{HeadVerdict}
+use Rattle.head.specs.declared.HeadWhy.{HeadWhy}
 
 -- ---- the state
 
@@ -97,3 +102,17 @@ verdictOn k (BothLines i j) = record { number = k; named = 2; first = i; second 
 
 unfoldable pub verdictFor : Verdict → HeadVerdict
 verdictFor v = verdictOn (v .number) (v .lines)
+
+-- ---- the question's answer
+
+-- the reason by its number, and the running job that is named
+abbrev pub reasonFor : Reason → HeadWhy
+reasonFor NonePending = record { result = 0; reason = 1; task = 0; due = record { 0 = 0 } }
+reasonFor ItRuns = record { result = 0; reason = 2; task = 0; due = record { 0 = 0 } }
+reasonFor (Earlier m t) = record { result = 0; reason = 3; task = m; due = t }
+reasonFor (ThereFirst m t) = record { result = 0; reason = 4; task = m; due = t }
+
+-- or the refusal's number
+abbrev pub whyFor : Why → HeadWhy
+whyFor (Because r) = reasonFor r
+whyFor (Refused k) = record { result = k; reason = 0; task = 0; due = record { 0 = 0 } }

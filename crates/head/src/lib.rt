@@ -7,8 +7,8 @@ ghost use Rattle.rules.specs.Words.{places};
 ghost use Rattle.rules.specs.declared.Call.the-variants.{Wait, Activate, Terminate, Chain};
 ghost use Rattle.rules.specs.Layer.{isReleased};
 ghost use Rattle.jobs.specs.Listed.{blankJob};
-ghost use Rattle.head.specs.Placed.{phaseIn, placedJob, jobIn, placed, stateIn, HeadHanded, runsIn, taskIn, dueIn, numberOf, calledOf, answerFor, verdictFor};
-ghost use Rattle.head.specs.Calls.{checkedTable, HeadHandedOut, LinesChecked, steppedFor, headStep, Left};
+ghost use Rattle.head.specs.Placed.{phaseIn, placedJob, jobIn, placed, stateIn, HeadHanded, runsIn, taskIn, dueIn, numberOf, calledOf, answerFor, verdictFor, reasonFor, whyFor};
+ghost use Rattle.head.specs.Calls.{checkedTable, HeadHandedOut, LinesChecked, steppedFor, headStep, Left, headWhy};
 ghost use Rattle.head.specs.Claims.{Claims};
 use jobs::JobList;
 use monitor::Monitor;
@@ -21,8 +21,10 @@ use rules::Line;
 use rules::Named;
 use rules::PLACES;
 use rules::Phase;
+use rules::Reason;
 use rules::Tick;
 use rules::Verdict;
+use rules::Why;
 use scheduler::State;
 use scheduler::Stepped;
 use table::TaskTable;
@@ -71,6 +73,15 @@ pub struct HeadVerdict {
 pub struct HeadChecked {
     pub state: HeadState,
     pub verdict: HeadVerdict,
+}
+
+// Why a task's first pending job does or does not run: the result, which is 0, or 3 for a task without a line; the reason (0 refused, 1 none is pending, 2 it runs, 3 an earlier deadline is running, 4 the same deadline was there first); and for 3 and 4 task and deadline of the running job (else 0).
+#[repr(C)]
+pub struct HeadWhy {
+    pub result: u8,
+    pub reason: u8,
+    pub task: u8,
+    pub due: Tick,
 }
 
 // What a call gives: the next state, and its answer.
@@ -316,6 +327,53 @@ fn verdict_for(v: Verdict) -> HeadVerdict
     }
 }
 
+// Why a job does or does not run.
+fn reason_for(reason: Reason) -> HeadWhy
+    ensures { λ r. ⌜ r ≡ reasonFor reason ⌝ }
+{
+    match reason {
+        Reason::NonePending => HeadWhy {
+            result: 0,
+            reason: 1,
+            task: 0,
+            due: Tick(0),
+        },
+        Reason::ItRuns => HeadWhy {
+            result: 0,
+            reason: 2,
+            task: 0,
+            due: Tick(0),
+        },
+        Reason::Earlier(task, due) => HeadWhy {
+            result: 0,
+            reason: 3,
+            task,
+            due,
+        },
+        Reason::ThereFirst(task, due) => HeadWhy {
+            result: 0,
+            reason: 4,
+            task,
+            due,
+        },
+    }
+}
+
+// What the question is answered with.
+fn why_for(why: Why) -> HeadWhy
+    ensures { λ r. ⌜ r ≡ whyFor why ⌝ }
+{
+    match why {
+        Why::Because(reason) => reason_for(reason),
+        Why::Refused(number) => HeadWhy {
+            result: number,
+            reason: 0,
+            task: 0,
+            due: Tick(0),
+        },
+    }
+}
+
 // ---- the check by value
 
 // The check of a task table: a fresh state is handed out if it gives 0.
@@ -403,6 +461,19 @@ fn step_chain(p: HeadState, at: Tick, task: u8) -> HeadStepped
     stepped_for(next, placed_jobs(jobs, after, greater(n, list.count)))
 }
 
+// ---- the question by value
+
+// Why a task's first pending job does or does not run, by value.
+fn ask_why(p: HeadState, task: u8) -> HeadWhy
+    requires { ⌜ HeadHanded p ⌝ }
+    ensures { λ r. ⌜ r ≡ headWhy p task ⌝ }
+{
+    let jobs = p.jobs;
+    let n = p.count;
+    let s = state_in(p, jobs_in(jobs, n));
+    why_for(scheduler::why(s, task))
+}
+
 // ---- the check and the calls for C: lines as they are, the state of a recorder head updated where it stands
 
 // The check of the lent lines: a fresh state is handed out if it gives 0. Of more than 32 lines none is read.
@@ -462,6 +533,15 @@ pub extern "C" fn head_chain(s: &mut HeadState, at: Tick, task: u8) -> HeadAnswe
     let next = step_chain(*s, at, task);
     *s = next.state;
     next.answer
+}
+
+// Why a task's first pending job does or does not run. The state is only read.
+#[no_mangle]
+pub extern "C" fn head_why(s: &HeadState, task: u8) -> HeadWhy
+    requires { ⌜ HeadHanded (now s) ⌝ }
+    ensures { λ r. ⌜ r ≡ headWhy (now (s .entry)) task ⌝ }
+{
+    ask_why(*s, task)
 }
 
 // Does nothing. Its contract is all of specs/Claims, so that a claim without a proof fails the check.

@@ -8,9 +8,10 @@ use borrow.Author.Tests.{eq-eqb, ne-eqb}
 use lib.Dec.{eqb, eqb·suc-zero}
 use lib.ListN.{length, getD, take, drop}
 use Rattle.rules.specs.declared.Job.{Job}
+use Rattle.rules.specs.Words.{only}
 use Rattle.jobs.specs.declared.JobList.{JobList}
 use Rattle.jobs.specs.declared.Lead.the-variants.{NoJob, Leads}
-use Rattle.jobs.specs.Listed.{blankJob, view, goesBefore, isFirstIn, insertDue, pendingOf, firstIn, leadOf, leadWith}
+use Rattle.jobs.specs.Listed.{blankJob, view, goesBefore, isFirstIn, insertDue, isOf, pendingOf, firstIn, leadOf, leadWith}
 
 -- ---- the first job
 
@@ -45,6 +46,14 @@ pending-next t x xs h = rw (ne-eqb t (x .task) h)
 pub pending-none : (t : ℕ) → pendingOf t [] ≡ 0
 unfolding pendingOf
 pending-none t = refl
+
+-- ---- the first job of a task
+
+pub own-here : (t : ℕ) (x : Job) (xs : List Job) → t ≡ x .task → leadOf (only (isOf t) (x ∷ xs)) ≡ Leads x
+own-here t x xs h = rw (eq-eqb t (x .task) h) refl
+
+pub own-next : (t : ℕ) (x : Job) (xs : List Job) → (t ≡ x .task → ⊥) → leadOf (only (isOf t) (x ∷ xs)) ≡ leadOf (only (isOf t) xs)
+own-next t x xs h = rw (ne-eqb t (x .task) h) refl
 
 -- ---- the job that leads
 

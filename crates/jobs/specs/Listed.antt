@@ -36,9 +36,13 @@ pub record Shaped (l : JobList) : Type 0 where
 
 -- ---- the order
 
+-- an earlier deadline
+abbrev pub isEarlier : Job → Job → Bool
+isEarlier j x = ltb (j .due .0) (x .due .0)
+
 -- a new job goes in front of a job that is due later
 abbrev pub goesBefore : Job → Job → Bool
-goesBefore j x = ltb (j .due .0) (x .due .0)
+goesBefore j x = isEarlier j x
 
 -- no job is due before one in front of it
 abbrev pub Sorted : List Job → Type 0
@@ -65,9 +69,13 @@ releaseFirst (x ∷ xs) = releasedJob x ∷ xs
 
 -- ---- what is asked of a list
 
+-- a job of task t
+abbrev pub isOf : ℕ → Job → Bool
+isOf t x = eqb t (x .task)
+
 -- how many jobs of a task there are
 unfoldable pub pendingOf : ℕ → List Job → ℕ
-pendingOf t xs = countBy (λ (x : Job). eqb t (x .task)) xs
+pendingOf t xs = countBy (isOf t) xs
 
 -- the first job, or a blank one
 unfoldable pub firstIn : List Job → Job

@@ -4,8 +4,8 @@ ghost use mathlib.Core.List.{[]};
 ghost use mathlib.Core.Bool.{true, cond};
 ghost use Prim.Native.Nat.{_≤_, _<_};
 ghost use lib.ListN.{drop};
-ghost use Rattle.rules.specs.Words.{places};
-ghost use Rattle.jobs.specs.Listed.{blankJob, goesBefore, view, pack, Shaped, Sorted, isFirstIn, insertDue, releasedJob, releaseFirst, leadOf, leadWith, pendingOf, firstIn, lateIn, newlyLateIn};
+ghost use Rattle.rules.specs.Words.{places, only};
+ghost use Rattle.jobs.specs.Listed.{blankJob, isEarlier, goesBefore, view, pack, Shaped, Sorted, isFirstIn, insertDue, releasedJob, releaseFirst, isOf, leadOf, leadWith, pendingOf, firstIn, lateIn, newlyLateIn};
 ghost use Rattle.jobs.specs.Inside.{aimOf, enterAt, leaveAt, replaceAt, lateStep};
 use rules::Job;
 use rules::Late;
@@ -49,11 +49,18 @@ pub fn empty() -> JobList
     }
 }
 
+// An earlier deadline.
+pub fn is_earlier(job: Job, other: Job) -> bool
+    ensures { λ r. ⌜ r ≡ isEarlier job other ⌝ }
+{
+    job.due.0 < other.due.0
+}
+
 // The order of the list: whether a new job goes before one that is there. On equal deadlines it goes behind.
 fn goes_before(job: Job, other: Job) -> bool
     ensures { λ r. ⌜ r ≡ goesBefore job other ⌝ }
 {
-    job.due.0 < other.due.0
+    is_earlier(job, other)
 }
 
 // ---- what changes a list: nothing is tested behind a change, so that the array is copied once in and once out
@@ -269,6 +276,23 @@ pub fn pending_from(list: JobList, start: usize, task: u8) -> usize
         i += 1;
     }
     found
+}
+
+// The first job of a task.
+pub fn first_of(list: JobList, task: u8) -> Lead
+    requires { ⌜ Shaped list ⌝ }
+    ensures { λ r. ⌜ r ≡ leadOf (only (isOf task) (view list)) ⌝ }
+{
+    let n = list.count;
+    let mut i = 0;
+    while i < n {
+        let job = list.jobs[i];
+        if job.task == task {
+            return Lead::Leads(job);
+        }
+        i += 1;
+    }
+    Lead::NoJob
 }
 
 // The first job; a blank one where there is none.

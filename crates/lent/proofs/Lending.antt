@@ -1,6 +1,8 @@
--- A struct of plain data in a local: it is lent by `&mut` for a lifetime, and comes back with the last value of the reference.
+-- A struct of plain data in a local: it is lent by `&mut` for a lifetime, and comes back with the last value of the reference; or it is lent by `&`, and comes back as it was.
 --     lends        the local's cell  ⊢ ⇛ ∃ γ. the `&κ mut` of it, and the lender's part
 --     back         [†κ], the lender's part and the last value y  ⊢ ⇛ the local's cell, which holds y
+--     lends-shared the local's cell  ⊢ ⇛ ∃ γ. the `&κ` of it, and the lender's part
+--     shared-back  [†κ] and the lender's part  ⊢ ⇛ the local's cell, as it was
 --     Made         a struct of two such, which can be made of the two.        made-is       what is known of its machine value, from what is known of theirs
 -- Assumes nothing.
 use mathlib.Core.Path.{_≡_, refl, sym, subst}
@@ -16,11 +18,12 @@ use base.Fml.{Lft, GName, Fml, ftrue, fat, fsep, fdead, flent, fres}
 use prog.Wp.{Heap}
 use ghost.Atoms.{Atoms, sem}
 use types.Kit.{Given, ‵, _⊛_, some, later, _$_, _∵_, !, qed, move, drop, use1, use3, check, rewrite, fsplit, fjoin, fpick, fpack, await, updating, now as at-once, done}
+use types.Tokens.{lent-back}
 use types.SemTy.{Body}
 use denote.Laws.{Is, shows}
-use denote.Memory.{mem, partOf, cellAt}
-use denote.Ref.{MutRef}
-use denote.Lend.{lends-ref, ref-back}
+use denote.Memory.{mem, partAt, partOf, cellAt}
+use denote.Ref.{MutRef, ShrRef}
+use denote.Lend.{lends-ref, ref-back, lends-shr}
 use denote.Steps.{owned, peeks}
 use denote.Exit.{Last, left, yes}
 use denote.Struct.Struct.{Plains}
@@ -52,6 +55,28 @@ module _ (S : Data) {M : Type 1} (𝓤 : URA M) (H : Heap 𝓤) (A : Atoms 𝓤)
       use3 W (later (‵ (mem (row S) .lies y b 0))) (ref-back 𝓤 H A W (row S) κ γ y b 0) $ await ! tt $ fpick ! (λ vs. fsplit ! $ move ! (1 ∷ []) $
       peeks ! (row S) (Is (row S)) (shows 𝓤 H A (row S)) y vs (λ is. drop ! $ rewrite ! 0 (λ (us : List Val). ‵ (cellAt fullShare (row S .mir) us b 0)) (LL.tells (S .type) (S .laws) y vs is) refl $
       use1 W (‵ (cell y)) (W .laws .raw-at fullShare (ty S) b 0 (val S y)) $ at-once ! $ check ! (subst (Is (row S) y) (LL.tells (S .type) (S .laws) y vs is) is) $ done !))
+
+  -- the same by `&`: the reference, and what the lender is to have back
+  abbrev pub shared : GName → S .type .D → Fml
+  shared γ h = ShrRef (named 0) κ (row S) .own (record { ptr = (b, 0); name = γ; now = h }) (vptr b 0 ∷ [])
+
+  abbrev pub held : S .type .D → Fml
+  held h = partAt (row S) fullShare h b 0
+
+  pub lends-shared : (h : S .type .D) → Is (row S) h (vals S h) → ent 𝓤 (sem 𝓤 H A (cell h)) (H .⇛ (ex 𝓤 (λ (γ : GName). sep 𝓤 (sem 𝓤 H A (shared γ h)) (A .lent κ (held h)))))
+  unfolding partOf
+  lends-shared h is =
+      qed W (‵ (cell h) ∷ []) ∵ updating ! $ use1 W (‵ (fat fullShare (rawTy (ty S)) b 0 (val S h))) (W .laws .at-raw fullShare (ty S) b 0 (val S h)) $
+      owned ! (row S) (Is (row S)) (LL.makes (S .type) (S .plain) 𝓤 H A) h (vals S h) is $ move ! (1 ∷ 0 ∷ []) $ fjoin ! $
+      fpack ! (List Val) (λ us. fsep (cellAt fullShare (row S .mir) us b 0) (row S .own h us)) (vals S h) $
+      use1 W (later (some (λ (γ : GName). ‵ (shared γ h) ⊛ ‵ (flent κ (held h))))) (lends-shr 𝓤 H A W (row S) (named 0) κ fullShare h b 0) $ await ! tt $ at-once ! $ done !
+
+  pub shared-back : (h : S .type .D) → ent 𝓤 (sep 𝓤 (A .dead κ) (A .lent κ (held h))) (H .⇛ (sem 𝓤 H A (cell h)))
+  unfolding partOf
+  shared-back h =
+      qed W (‵ (fdead κ) ∷ ‵ (flent κ (held h)) ∷ []) ∵ updating ! $ lent-back ! tt $ fpick ! (λ vs. fsplit ! $ move ! (1 ∷ []) $
+      peeks ! (row S) (Is (row S)) (shows 𝓤 H A (row S)) h vs (λ is. drop ! $ rewrite ! 0 (λ (us : List Val). ‵ (cellAt fullShare (row S .mir) us b 0)) (LL.tells (S .type) (S .laws) h vs is) refl $
+      use1 W (‵ (cell h)) (W .laws .raw-at fullShare (ty S) b 0 (val S h)) $ at-once ! $ done !))
 
 -- the pair's first, as a parameter by value, is as it was passed at exit: nothing is bound and nothing said of it
 pub record Made {S P : Data} (N : Pair S P) : Type 2 where

@@ -1,6 +1,7 @@
 pub mod Lending
 pub mod Lend1
 pub mod Lend2
+pub mod LendLook1
 pub mod Slicing
 pub mod LendPart
 pub mod LendWith

@@ -6,13 +6,14 @@ ghost use Rattle.rules.specs.declared.Call.the-variants.{Wait, Activate, Termin
 ghost use Rattle.rules.specs.Words.{places};
 ghost use Rattle.rules.specs.Tape.{greatestByte, TableWrote};
 ghost use Rattle.tape.specs.Tables.{givenLines};
-ghost use Rattle.scheduler.specs.State.{Handed, CheckGives, CallGives};
+ghost use Rattle.scheduler.specs.State.{Handed, CheckGives, CallGives, whyOf};
 ghost use Rattle.board.specs.Lent.{LinesChecked};
 use rules::Call;
 use rules::Line;
 use rules::PLACES;
 use rules::Span;
 use rules::Tick;
+use rules::Why;
 use rules::Written;
 use scheduler::Checked;
 use scheduler::State;
@@ -152,4 +153,15 @@ pub fn call(s: State, call: Call) -> Stepped
         Call::Terminate(at) => terminate(s, at),
         Call::Chain(at, task) => chain(s, at, task),
     }
+}
+
+// ---- the question
+
+// As `board::why`, on a state that is lent to it.
+pub fn why(s: State, task: u8) -> Why
+    requires { ⌜ Handed s ⌝ }
+    ensures { λ r. ⌜ r ≡ whyOf s task ⌝ }
+{
+    let here = s;
+    board::why(&here, task)
 }

@@ -117,7 +117,19 @@ fn told(text: &[u8], bare: bool, at: Tick, answer: Answer) {
     show::send(&mut out, n);
 }
 
-// 'list' and 'counts', told by their third letter, show the state; any other line is a call, which is made and printed.
+// 'why 2': why the task's first pending job does or does not run.
+fn waits(s: State, text: &[u8])
+    requires { ⌜ Handed s ⌝ }
+{
+    let task = script::task_at(text, 0);
+    let why = lent::why(s, task);
+    let mut out = [0u8; ROOM];
+    let n = asked(&mut out, text);
+    let n = reasons::why(&mut out, n, task, why);
+    show::send(&mut out, n);
+}
+
+// 'list', 'counts' and 'why', told by their third letter, show the state; any other line is a call, which is made and printed.
 fn step(s: State, text: &[u8], bare: bool) -> State
     requires { ⌜ Handed s ⌝ }
     ensures { λ r. ⌜ Handed r ⌝ }
@@ -130,6 +142,10 @@ fn step(s: State, text: &[u8], bare: bool) -> State
     }
     if letter == b'u' {
         counts(s.monitor, s.table.count);
+        return s;
+    }
+    if letter == b'y' {
+        waits(s, text);
         return s;
     }
     let call = script::call_at(text, 0);

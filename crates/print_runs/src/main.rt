@@ -115,7 +115,7 @@ fn long(tape: &[u8]) {
 
 // ---- lines
 
-// 'tape: 01 05 ..' is printed, and what it prints; 'long: ..', and the sum of it.
+// 'tape: 01 05 ..' is printed, and what it prints; 'why: ..', and why its tasks wait; 'long: ..', and the sum of what it prints.
 fn shown(letter: u8, room: &[u8; ROOM], count: usize)
     requires { ⌜ count ≤ 65537 ⌝ }
 {
@@ -123,6 +123,10 @@ fn shown(letter: u8, room: &[u8; ROOM], count: usize)
     let tape = &bytes[0..count];
     if letter == b't' {
         transcript::write(tape);
+        return;
+    }
+    if letter == b'w' {
+        reasons::write(tape);
         return;
     }
     long(tape);

@@ -8,10 +8,12 @@ use Rattle.rules.specs.Late.{isPast}
 use Rattle.rules.specs.Number.{groupsIn, joined, restOf, numberOf, boundedAt}
 use Rattle.rules.specs.Tape.{recordBytes, lineBytes, linesBytes, tableBytes, recordsBytes, tapeOf, callAt, ticksAt, recordAt, lineAt, linesAt, tableAt, recordsIn, readTape}
 use Rattle.rules.specs.Print.{decimalIn, spaced, commaTasks, tasksText, answerText, tableText, tapeText, callsText, opening, transcript}
+use Rattle.rules.specs.Why.{reason, why}
+use Rattle.rules.specs.WhyPrint.{whyText, whyLinesFrom, whyTranscript}
 use Rattle.rules.specs.Cases.{Cases}
 
 pub cases : Cases
-unfolding keyAt before refusal isPast _if_else_ _then_ refuse groupsIn joined restOf numberOf boundedAt recordBytes lineBytes linesBytes tableBytes recordsBytes tapeOf callAt ticksAt recordAt lineAt linesAt tableAt recordsIn readTape decimalIn spaced commaTasks tasksText answerText tableText tapeText callsText opening transcript
+unfolding keyAt before refusal isPast _if_else_ _then_ refuse groupsIn joined restOf numberOf boundedAt recordBytes lineBytes linesBytes tableBytes recordsBytes tapeOf callAt ticksAt recordAt lineAt linesAt tableAt recordsIn readTape decimalIn spaced commaTasks tasksText answerText tableText tapeText callsText opening transcript reason why whyText whyLinesFrom whyTranscript
 cases =
     record {
       printed-written = refl;
@@ -92,4 +94,19 @@ cases =
       ten-at-31 = refl;
       ten-at-32 = refl;
       ten-after-4 = refl;
+      why-earlier = refl;
+      why-there-first = refl;
+      why-it-runs = refl;
+      why-no-line = refl;
+      why-byte-255 = refl;
+      why-none-pending = refl;
+      why-first-of-two = refl;
+      why-preempted = refl;
+      why-late = refl;
+      why-print = refl;
+      why-print-whole = refl;
+      why-print-no-record = refl;
+      why-print-bad-record = refl;
+      why-print-bad-table = refl;
+      why-print-nothing-read = refl;
     }

@@ -18,6 +18,7 @@ use Rattle.rules.proofs.Reported.{late-once, reported-once}
 use Rattle.rules.proofs.Marks.{late-needs-no-mark}
 use Rattle.rules.proofs.Places.{places-suffice}
 use Rattle.rules.proofs.Counted.{counts-add-up}
+use Rattle.rules.proofs.Reasons.{why-true, why-refused}
 use Rattle.rules.proofs.Cases.{cases}
 
 pub the-claims : Claims
@@ -49,5 +50,7 @@ the-claims =
       late-needs-no-mark = late-needs-no-mark;
       places-suffice = places-suffice;
       counts-add-up = counts-add-up;
+      why-true = why-true;
+      why-refused = why-refused;
       cases = cases;
     }

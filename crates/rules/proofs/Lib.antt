@@ -34,5 +34,6 @@ pub mod Marks
 pub mod Reported
 pub mod Places
 pub mod Counted
+pub mod Reasons
 pub mod Cases
 pub mod Claims

@@ -56,6 +56,10 @@ module _ (T : Table) where
   unfolding keyAt
   part-order i j s h = omega arith
 
+  -- what k does not go before is ordered by no greater key
+  pub no-greater : (j k : Pending) → (Before T k j → ⊥) → key T j ≤ key T k
+  no-greater j k h = omega arith
+
   -- the order is by deadline: no job that goes before none is due earlier
   pub not-earlier : (j e : Pending) → (Before T j e → ⊥) → e .due .0 ≤ j .due .0
   unfolding keyAt

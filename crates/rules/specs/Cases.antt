@@ -1,4 +1,4 @@
--- Document 01, "The program and one whole run" and "Errors a builder could fall into": the printed run, cases a to l, and other single rows, as one statement. Assumes nothing.
+-- Document 01, "The program and one whole run" and "Errors a builder could fall into": the printed run, cases a to l, and other single rows, as one statement; and those of Q-1. Assumes nothing.
 use Prim.Native.Nat.{ℕ, _+_, _*_, _/_}
 use Prim.Native.String.{String}
 use mathlib.Core.Path.{_≡_}
@@ -32,6 +32,11 @@ use Rattle.rules.specs.Layer.{moved, fresh, result, choice, answer, inPl
 use Rattle.rules.specs.Plain.{start, plainResult, plainRun, plainChoice}
 use Rattle.rules.specs.Run.{run, answers, freshHead, headRun}
 use Rattle.rules.specs.Print.{ascii, ended, transcript}
+use Rattle.rules.specs.declared.Reason.the-variants.{NonePending, ItRuns, Earlier, ThereFirst}
+use Rattle.rules.specs.declared.Why.{Why}
+use Rattle.rules.specs.declared.Why.the-variants.{Because}
+use Rattle.rules.specs.Why.{why}
+use Rattle.rules.specs.WhyPrint.{whyTranscript}
 
 abbrev pub line : ℕ → ℕ → ℕ → Line
 line d p l = record { deadline = record { 0 = d }; priority = p; limit = l }
@@ -224,3 +229,26 @@ pub record Cases : Type 0 where
   pub ten-at-31 : result tableOver (run tableOver fresh (take 31 full)) (Activate (at 0) 1) ≡ 0
   pub ten-at-32 : result tableOver (run tableOver fresh full) (Activate (at 0) 1) ≡ 10
   pub ten-after-4 : result tableOver (run tableOver fresh full) (Activate (at 0) 0) ≡ 4
+  -- Q-1: at tick 3 of the printed run, and at its borders
+  pub why-earlier : why tableP (run tableP fresh upToTick3) 0 ≡ Because (Earlier 2 (at 5))
+  pub why-there-first : why tableP (run tableP fresh upToTick3) 1 ≡ Because (ThereFirst 2 (at 5))
+  pub why-it-runs : why tableP (run tableP fresh upToTick3) 2 ≡ Because ItRuns
+  pub why-no-line : why tableP (run tableP fresh upToTick3) 3 ≡ Why.Refused 3
+  pub why-byte-255 : why tableP fresh 255 ≡ Why.Refused 3
+  pub why-none-pending : why tableP fresh 0 ≡ Because NonePending
+  pub why-first-of-two : why tableP (run tableP fresh twoOfTask0) 0 ≡ Because ItRuns
+  pub why-preempted : why tableP (run tableP fresh (Activate (at 0) 1 ∷ Activate (at 1) 0 ∷ [])) 1 ≡ Because (Earlier 0 (at 4))
+  pub why-late : why tableP (run tableP fresh (Activate (at 0) 0 ∷ Wait (at 9) ∷ Activate (at 9) 0 ∷ Activate (at 9) 1 ∷ [])) 1 ≡ Because (Earlier 0 (at 3))
+  pub why-print :
+      whyTranscript (take 24 printedTape)
+      ≡ lines
+      ("task 0 is waiting: task 2 is running with the earlier deadline 5"
+      ∷ "task 1 is waiting: task 2 was there first and is running with the same deadline 5"
+      ∷ "task 2 is running"
+      ∷ [])
+  pub why-print-whole : whyTranscript printedTape ≡ lines ("task 0 has no pending job" ∷ "task 1 has no pending job" ∷ "task 2 has no pending job" ∷ [])
+  pub why-print-no-record : whyTranscript (0x01 ∷ 0x03 ∷ 0x0C ∷ 0x02 ∷ []) ≡ lines ("task 0 has no pending job" ∷ [])
+  pub why-print-bad-record :
+      whyTranscript (0x01 ∷ 0x03 ∷ 0x0C ∷ 0x02 ∷ 0x01 ∷ 0x00 ∷ 0x00 ∷ 0x04 ∷ []) ≡ lines ("task 0 is running" ∷ "tape 22 at 7" ∷ [])
+  pub why-print-bad-table : whyTranscript (0x02 ∷ 0x03 ∷ 0x01 ∷ 0x01 ∷ 0x05 ∷ 0x02 ∷ 0x01 ∷ 0x04 ∷ []) ≡ lines ("table 5 0 1" ∷ [])
+  pub why-print-nothing-read : whyTranscript [] ≡ lines ("tape 20 at 0" ∷ [])

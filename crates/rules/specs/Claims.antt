@@ -1,5 +1,6 @@
 -- All that is claimed of the rules, in one place; proofs/Claims.antt proves it. Assumes nothing.
 use Rattle.rules.specs.Statement.{Demand3, Demand3-answers, Demand3-broken, PlainIsEdf, KernelIsPriority, PreemptedOldest, ChainIsBoth, CheckExact, RefusalsExact, PlainRefusalsExact, LastAccepted, RefusedUnchanged, NoTen, ListHolds, RunsReleased, ListMoves, CallsExact, CallsMade, ReleasedOnce, NothingVanishes, ApartPriorities, LateOnce, ReportedOnce, LateNeedsNoMark, PlacesSuffice, CountsAddUp}
+use Rattle.rules.specs.Why.{WhyTrue, WhyRefused}
 use Rattle.rules.specs.Cases.{Cases}
 
 pub record Claims : Type 0 where
@@ -36,5 +37,8 @@ pub record Claims : Type 0 where
   pub late-needs-no-mark : LateNeedsNoMark
   pub places-suffice : PlacesSuffice
   pub counts-add-up : CountsAddUp
+  -- Q-1: exactly one reason is true of a task's first pending job, and it is the one given; 3 exactly for a task without a line
+  pub why-true : WhyTrue
+  pub why-refused : WhyRefused
   -- the printed run, and cases a to l
   pub cases : Cases

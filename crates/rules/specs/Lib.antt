@@ -12,7 +12,9 @@ pub mod Plain
 pub mod Number
 pub mod Tape
 pub mod Run
+pub mod Why
 pub mod Print
+pub mod WhyPrint
 pub mod History
 pub mod Statement
 pub mod Cases

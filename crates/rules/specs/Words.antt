@@ -6,7 +6,7 @@ use lib.Dec.{leb, eqb}
 
 infixr 10 _if_else_
 -- `8 if c else m` is 8 where the condition c holds, and m where it does not
-unfoldable pub _if_else_ : ℕ → Bool → ℕ → ℕ
+unfoldable pub _if_else_ {ℓ} : {A : Type ℓ} → A → Bool → A → A
 _if_else_ n true m = n
 _if_else_ n false m = m
 

@@ -123,6 +123,20 @@ pub enum Opening {
     BadTape { number: u8, place: usize },
 }
 
+// Why a task's first pending job does or does not run: none is pending, it runs, an earlier deadline is running, or the same deadline was there first. The running job is named by its task and deadline.
+pub enum Reason {
+    NonePending,
+    ItRuns,
+    Earlier(u8, Tick),
+    ThereFirst(u8, Tick),
+}
+
+// What is answered to why a task waits: the reason, or the refusal's number.
+pub enum Why {
+    Because(Reason),
+    Refused(u8),
+}
+
 // Does nothing. Its contract is all of specs/Claims, so that a claim without a proof fails the check.
 pub fn rules_hold()
     ensures { λ r. ⌜ Claims ⌝ }

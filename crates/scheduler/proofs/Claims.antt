@@ -17,10 +17,11 @@ use Rattle.rules.specs.Layer.{Board, fresh, next, answer, result, marked, done,
 use Rattle.rules.specs.Counts.{withLate, withEnded, ending}
 use Rattle.rules.specs.Plain.{Plain, start, plainNext}
 use Rattle.rules.specs.Run.{answers, Head, freshHead, headNext, headRun, Reached}
+use Rattle.rules.specs.Why.{why}
 use Rattle.rules.proofs.Outcome.{only}
 use Rattle.rules.proofs.Checked.{keeps-found, found-keeps, check-exact}
 use Rattle.rules.proofs.Demand3.{Both, fresh-both, next-both, results-alike, same-choice}
-use Rattle.rules.proofs.Reached.{reached-fresh, reached-next}
+use Rattle.rules.proofs.Reached.{head-board, reached-fresh, reached-next}
 use Rattle.table.specs.declared.TaskTable.{TaskTable}
 use Rattle.jobs.specs.Listed.{pack}
 use Rattle.table.specs.Lines.{packed, linesIn, given}
@@ -28,11 +29,12 @@ use Rattle.table.proofs.Packed.{kept-lines, count-packed, packed-length}
 use Rattle.table.proofs.Laws.{given-size}
 use Rattle.scheduler.specs.declared.State.{State}
 use Rattle.scheduler.specs.declared.Stepped.{Stepped}
-use Rattle.scheduler.specs.State.{stateOf, tableOf, Handed, checkedFor, checkedOf, told, stepOf}
+use Rattle.scheduler.specs.State.{stateOf, tableOf, Handed, checkedFor, checkedOf, told, stepOf, whyOf}
 use Rattle.scheduler.specs.declared.Checked.{Checked}
-use Rattle.scheduler.specs.Claims.{ReadsBack, CopyOf, AnswersEvery, Fresh, GivesFresh, HandedExactly, RefusedUnchanged, OneChecked, OneCalled, checked, stateAfter, answered, plainResults, plainChoices, RunsAsRuled, Claims}
+use Rattle.scheduler.specs.Claims.{ReadsBack, CopyOf, AnswersEvery, Fresh, GivesFresh, HandedExactly, RefusedUnchanged, OneChecked, OneCalled, checked, stateAfter, answered, plainResults, plainChoices, RunsAsRuled, WhyAsRuled, Claims}
 use Rattle.scheduler.proofs.Back.{table-back, head-back, step-is}
 use Rattle.scheduler.proofs.Handed.{handed-by}
+use Rattle.scheduler.proofs.Waits.{why-back}
 
 reads-back : ReadsBack
 reads-back T h r = record { table = table-back T h; head = head-back T h r }
@@ -182,6 +184,15 @@ runs-as-ruled T a calls =
       running-plain = ap (map (λ (z : Answer). z .running)) told-so ∙ running-from T keeps fresh start (fresh-both T) calls;
     }
 
+-- ---- the question
+
+why-as-ruled : WhyAsRuled
+why-as-ruled T a calls n =
+    let h = headRun T freshHead calls in
+    ap (λ (z : State). whyOf z n) (runs-as-ruled T a calls .state-is)
+    ∙ why-back T h (record { accepted = a; calls = calls; is = refl }) n
+    ∙ ap (λ (b : Board). why T b n) (head-board T freshHead calls)
+
 -- ---- one outcome
 
 one-checked : OneChecked
@@ -201,4 +212,5 @@ the-claims =
       one-checked = one-checked;
       one-called = one-called;
       runs-as-ruled = runs-as-ruled;
+      why-as-ruled = why-as-ruled;
     }

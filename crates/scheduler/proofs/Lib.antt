@@ -8,6 +8,7 @@ pub mod Whole
 pub mod Handed
 pub mod Cases
 pub mod Decided
+pub mod Waits
 pub mod Checking
 pub mod Claims
 mod Outcomes

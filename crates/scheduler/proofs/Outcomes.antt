@@ -6,6 +6,7 @@ use Rattle.scheduler.proofs.activate.Reads as activate
 use Rattle.scheduler.proofs.terminate.Reads as terminate
 use Rattle.scheduler.proofs.chain.Reads as chain
 use Rattle.scheduler.proofs.call.Reads as call
+use Rattle.scheduler.proofs.why.Reads as why
 
 pub record Outcomes : Type 0 where
   check : OneStated check.Post
@@ -14,6 +15,7 @@ pub record Outcomes : Type 0 where
   terminate : OneStated terminate.Post
   chain : OneStated chain.Post
   call : OneStated call.Post
+  why : OneStated why.Post
 
 pub the-outcomes : Outcomes
 the-outcomes =
@@ -24,4 +26,5 @@ the-outcomes =
       terminate = λ κs a r r′ s s′ p q. only (p .0) (q .0);
       chain = λ κs a r r′ s s′ p q. only (p .0) (q .0);
       call = λ κs a r r′ s s′ p q. only (p .0) (q .0);
+      why = λ κs a r r′ s s′. only;
     }

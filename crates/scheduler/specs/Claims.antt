@@ -13,11 +13,12 @@ use Rattle.rules.specs.Outcome.{One}
 use Rattle.rules.specs.Table.{Table, size, fine, check}
 use Rattle.rules.specs.Layer.{fresh}
 use Rattle.rules.specs.Plain.{Plain, start, plainResult, plainChoice, plainNext}
-use Rattle.rules.specs.Run.{answers, Head, freshHead, headRun, Reached}
+use Rattle.rules.specs.Run.{run, answers, Head, freshHead, headRun, Reached}
+use Rattle.rules.specs.Why.{why}
 use Rattle.table.specs.declared.TaskTable.{TaskTable}
 use Rattle.table.specs.Lines.{packed, linesIn}
 use Rattle.scheduler.specs.declared.State.{State}
-use Rattle.scheduler.specs.State.{stateOf, tableOf, headOf, Handed, checkedFor, checkedOf, stepOf, CheckGives, CallGives}
+use Rattle.scheduler.specs.State.{stateOf, tableOf, headOf, Handed, checkedFor, checkedOf, stepOf, CheckGives, CallGives, whyOf}
 
 -- table and head, the kernel's ready queue with it, can be read back from a state
 pub record Back (T : Table) (h : Head) : Type 0 where
@@ -110,6 +111,10 @@ pub record Goes (T : Table) (calls : List Call) (told : List Answer) (s : State)
 abbrev pub RunsAsRuled : Type 0
 RunsAsRuled = (T : Table) → check T ≡ fine → (calls : List Call) → Goes T calls (answered (checked T) calls) (stateAfter (checked T) calls)
 
+-- to the question, after any sequence of calls on an accepted table, the rule-book's answer is given: the one true reason, or 3
+abbrev pub WhyAsRuled : Type 0
+WhyAsRuled = (T : Table) → check T ≡ fine → (calls : List Call) (n : ℕ) → whyOf (stateAfter (checked T) calls) n ≡ why T (run T fresh calls) n
+
 pub record Claims : Type 0 where
   -- nothing of a head is lost in its state
   pub reads-back : ReadsBack
@@ -123,3 +128,5 @@ pub record Claims : Type 0 where
   pub one-called : OneCalled
   -- demands 2 and 3, for whole runs
   pub runs-as-ruled : RunsAsRuled
+  -- Q-1, for whole runs
+  pub why-as-ruled : WhyAsRuled

@@ -1,10 +1,11 @@
 -- What a state stands for, and what the check and the calls promise: what the rule-book gives for it. Assumes nothing.
-use Prim.Native.Nat.{_-_}
+use Prim.Native.Nat.{ℕ, _-_}
 use mathlib.Core.Path.{_≡_}
 use mathlib.Core.List.{List, [], map}
 use Rattle.rules.specs.declared.Job.{Job as Entry}
 use Rattle.rules.specs.declared.Tick.{Tick}
 use Rattle.rules.specs.declared.Call.{Call}
+use Rattle.rules.specs.declared.Why.{Why}
 use Rattle.rules.specs.Words.{unless}
 use Rattle.rules.specs.Table.{Table, check, deadlineOf}
 use Rattle.rules.specs.Jobs.{Job}
@@ -12,6 +13,7 @@ use Rattle.rules.specs.Late.{isPast}
 use Rattle.rules.specs.Layer.{Board, answer}
 use Rattle.rules.specs.Run.{Head, freshHead, headNext, Reached}
 use Rattle.rules.specs.Statement.{releasedOf}
+use Rattle.rules.specs.Why.{why}
 use Rattle.table.specs.declared.TaskTable.{TaskTable}
 use Rattle.table.specs.Lines.{packed, linesIn, given}
 use Rattle.jobs.specs.Listed.{view, pack}
@@ -94,6 +96,12 @@ told T h e = record { state = stateOf T (headNext T h e); answer = answer T (h .
 
 unfoldable pub stepOf : State → Call → Stepped
 stepOf s e = told (tableOf s) (headOf s) e
+
+-- ---- the question
+
+-- the rule-book's answer to why a task's first pending job does or does not run
+unfoldable pub whyOf : State → ℕ → Why
+whyOf s n = why (tableOf s) ((headOf s) .board) n
 
 -- ---- what the check of a given table, and call e on state s, promise of their result
 

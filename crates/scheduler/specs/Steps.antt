@@ -14,6 +14,8 @@ use Rattle.rules.specs.declared.KernelCall.the-variants.{NoCall, ActivateTask, 
 use Rattle.rules.specs.declared.Choice.{Choice}
 use Rattle.rules.specs.declared.Choice.the-variants.{Idle, Runs}
 use Rattle.rules.specs.declared.Late.{Late}
+use Rattle.rules.specs.declared.Reason.{Reason}
+use Rattle.rules.specs.declared.Reason.the-variants.{NonePending, ItRuns, Earlier, ThereFirst}
 use Rattle.rules.specs.Words.{_if_else_}
 use Rattle.rules.specs.Calls.{badTick}
 use Rattle.rules.specs.Counts.{noTallies, endedMore, onTask, withLate}
@@ -23,7 +25,7 @@ use Rattle.table.specs.Lines.{lineAt}
 use Rattle.jobs.specs.declared.JobList.{JobList}
 use Rattle.jobs.specs.declared.Lead.{Lead}
 use Rattle.jobs.specs.declared.Lead.the-variants.{NoJob, Leads}
-use Rattle.jobs.specs.Listed.{view, pack, isFirstIn, insertDue, firstIn, releaseFirst, leadOf, pendingOf, lateIn}
+use Rattle.jobs.specs.Listed.{view, pack, isEarlier, isFirstIn, insertDue, firstIn, releaseFirst, leadOf, pendingOf, lateIn}
 use Rattle.monitor.specs.declared.Monitor.{Monitor}
 use Rattle.monitor.specs.Tallies.{counts, tasksOf}
 use Rattle.scheduler.specs.declared.State.{State}
@@ -117,6 +119,17 @@ settledIn xs = record { list = pack (releaseFirst xs); call = settleOf (leadOf x
 -- chain: the new job is inserted, then as for terminate
 unfoldable pub chainedIn : ℕ → Tick → List Entry → Change
 chainedIn n due xs = settledIn (insertDue (jobAs n due Delayed) xs)
+
+-- ---- why a job waits
+
+-- the first job of task n, and the one that leads, which runs: the reasons in their order
+unfoldable pub reasonOf : ℕ → Lead → Lead → Reason
+reasonOf n NoJob r = NonePending
+reasonOf n (Leads a) NoJob = NonePending
+reasonOf n (Leads a) (Leads r) =
+    ItRuns if eqb n (r .task)
+    else Earlier (r .task) (r .due) if isEarlier r a
+    else ThereFirst (r .task) (r .due)
 
 -- ---- what is counted
 

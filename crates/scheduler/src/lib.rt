@@ -9,8 +9,8 @@ ghost use lib.Dec.{eqb};
 ghost use Rattle.ticks.specs.Ticks.{responseBy};
 ghost use Rattle.jobs.specs.Listed.{Shaped};
 ghost use Rattle.rules.specs.Table.{greatest};
-ghost use Rattle.scheduler.specs.Steps.{freshOf, choiceOf, askedBy, tickRefusal, activateRefusal, terminateRefusal, chainRefusal, jobAs, entryPhase, entryCall, settleOf};
-ghost use Rattle.scheduler.specs.State.{Handed, CheckGives, CallGives};
+ghost use Rattle.scheduler.specs.Steps.{freshOf, choiceOf, askedBy, tickRefusal, activateRefusal, terminateRefusal, chainRefusal, jobAs, entryPhase, entryCall, settleOf, reasonOf};
+ghost use Rattle.scheduler.specs.State.{Handed, CheckGives, CallGives, whyOf};
 ghost use Rattle.scheduler.specs.Claims.{Claims};
 use jobs::JobList;
 use jobs::Lead;
@@ -23,8 +23,10 @@ use rules::KernelCall;
 use rules::Line;
 use rules::PLACES;
 use rules::Phase;
+use rules::Reason;
 use rules::Tick;
 use rules::Verdict;
+use rules::Why;
 use table::TaskTable;
 
 // The scheduler state of a recorder head.
@@ -220,6 +222,41 @@ pub fn call(s: State, call: Call) -> Stepped
         Call::Terminate(at) => terminate(s, at),
         Call::Chain(at, task) => chain(s, at, task),
     }
+}
+
+// ---- the question
+
+// Why a task's first pending job does or does not run. The state is left as it is.
+pub fn why(s: State, task: u8) -> Why
+    requires { ⌜ Handed s ⌝ }
+    ensures { λ r. ⌜ r ≡ whyOf s task ⌝ }
+{
+    if s.table.count <= task as usize {
+        return Why::Refused(3);
+    }
+    let asked = jobs::first_of(s.list, task);
+    let runs = jobs::front(s.list, false);
+    Why::Because(reason(task, asked, runs))
+}
+
+// The reasons in their order, by the first job of the task and the one that runs.
+fn reason(task: u8, asked: Lead, runs: Lead) -> Reason
+    ensures { λ r. ⌜ r ≡ reasonOf task asked runs ⌝ }
+{
+    let Lead::Leads(job) = asked else {
+        return Reason::NonePending;
+    };
+    let Lead::Leads(first) = runs else {
+        return Reason::NonePending;
+    };
+    let due = first.due;
+    if task == first.task {
+        return Reason::ItRuns;
+    }
+    if jobs::is_earlier(first, job) {
+        return Reason::Earlier(first.task, due);
+    }
+    Reason::ThereFirst(first.task, due)
 }
 
 // ---- the refusals, in the order of the rows

@@ -119,6 +119,12 @@ pub fn call_at(text: &[u8], from: usize) -> Call {
     }
 }
 
+// 'why 2': the task that is named from here on.
+pub fn task_at(text: &[u8], from: usize) -> u8 {
+    let named = number(text, from);
+    small(named.value)
+}
+
 // ---- tables
 
 // How many lines have a place here: as many as a table on tape has at most.

@@ -39,7 +39,7 @@ digits-few (suc k) n = go (ltb n 10) (digits-few k (n / 10))
     go true h = omega arith
     go false h = omega (arith, h, length-append (decimalIn k (n / 10)) ((48 + n % 10) ∷ []))
 
-number-few : (n : ℕ) → length (decimal n) ≤ 20
+pub number-few : (n : ℕ) → length (decimal n) ≤ 20
 number-few n = digits-few 20 n
 
 run-few : (x : Choice) → length (runText x) ≤ 20
@@ -83,7 +83,7 @@ line-few t a h =
       many,
     ))
 
-stop-few : (n p : ℕ) → length (ended (tapeText n p)) ≤ lineMost
+pub stop-few : (n p : ℕ) → length (ended (tapeText n p)) ≤ lineMost
 unfolding tapeText spaced
 stop-few n p = simp length-append (omega (arith, number-few n, number-few p))
 

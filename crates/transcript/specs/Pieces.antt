@@ -8,8 +8,9 @@ use Rattle.rules.specs.declared.RecordRead.{RecordRead}
 use Rattle.rules.specs.declared.RecordRead.the-variants.{Record, End}
 use Rattle.rules.specs.declared.Call.{Call}
 use Rattle.rules.specs.Calls.{tickOf}
-use Rattle.rules.specs.Run.{freshHead}
-use Rattle.rules.specs.Tape.{zeroTick, recordAt, recordsAt}
+use Rattle.rules.specs.Table.{Table}
+use Rattle.rules.specs.Run.{Head, freshHead, headRun}
+use Rattle.rules.specs.Tape.{zeroTick, recordAt, Stop, atEnd, atRefusal, Records, recordsAt}
 use Rattle.rules.specs.Print.{ended, answerText, tapeText, recordsText, opening}
 use Rattle.rules.specs.Print as print
 use Rattle.scheduler.specs.State.{stateOf, tableOf, headOf, Handed, stepOf}
@@ -19,6 +20,9 @@ use Rattle.transcript.specs.declared.Run.{Run}
 use Rattle.transcript.specs.declared.Opened.{Opened}
 use Rattle.transcript.specs.declared.Called.{Called}
 use Rattle.transcript.specs.declared.Lined.{Lined}
+use Rattle.transcript.specs.declared.Halt.{Halt}
+use Rattle.transcript.specs.declared.Halt.the-variants.{AtEnd, AtRefusal}
+use Rattle.transcript.specs.declared.Ran.{Ran}
 
 -- ---- how a tape opens
 
@@ -80,6 +84,27 @@ pub record NextLine (tape : List ℕ) (x : Run) (old : List ℕ) (at : ℕ) (r :
   pub more : r .more ≡ goesOn (readIn tape x)
   pub run : r .run ≡ runAfter x (readIn tape x)
   pub handed : Handed (r .run .state)
+
+-- ---- run to where it stops
+
+-- what stops a run at a place: the tape's end, or a refusal
+abbrev pub haltOf : ℕ → RecordRead → Halt
+haltOf p (Record e n) = AtEnd
+haltOf p End = AtEnd
+haltOf p (RecordRead.Refused k) = AtRefusal k p
+
+-- and what stopped the reading of a whole tape
+abbrev pub haltFor : Stop → Halt
+haltFor atEnd = AtEnd
+haltFor (atRefusal k p) = AtRefusal k p
+
+-- the state that the calls of records rs leave, and what stopped them
+abbrev pub ranBy : Table → Head → Records → Ran
+ranBy T h rs = record { state = stateOf T (headRun T h (rs .calls)); halt = haltFor (rs .stop) }
+
+-- the records from there on
+unfoldable pub ranOf : List ℕ → Run → Ran
+ranOf tape x = ranBy (tableOf (x .state)) (headOf (x .state)) (recordsAt tape (x .at) (x .preceding))
 
 -- ---- all that is left
 

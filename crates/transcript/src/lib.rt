@@ -5,7 +5,7 @@ ghost use lib.ListN.{length};
 ghost use Rattle.rules.specs.Print.{unopened, countAbove, openingText};
 ghost use Rattle.scheduler.specs.State.{Handed};
 ghost use Rattle.print.specs.Buffers.{Put};
-ghost use Rattle.transcript.specs.Pieces.{openedAs, Opens, calledOf, stopLine, bufferRoom, lineMost, NextLine, Piece};
+ghost use Rattle.transcript.specs.Pieces.{openedAs, Opens, calledOf, stopLine, haltOf, ranOf, bufferRoom, lineMost, NextLine, Piece};
 ghost use Rattle.transcript.specs.Claims.{Claims};
 use libc::STDOUT_FILENO;
 use print::ROOM;
@@ -51,6 +51,18 @@ pub struct Lined {
     pub more: bool,
     pub next: usize,
     pub run: Run,
+}
+
+// Where a run stops: at the tape's end, or at a bad record, with the refusal's number and the place.
+pub enum Halt {
+    AtEnd,
+    AtRefusal { number: u8, place: usize },
+}
+
+// A tape run to where it stops: the state that its calls left, and what stopped it.
+pub struct Ran {
+    pub state: State,
+    pub halt: Halt,
 }
 
 // ---- the table
@@ -184,6 +196,37 @@ pub fn next_line(tape: &[u8], run: Run, out: &mut [u8; ROOM], at: usize) -> Line
         more: true,
         next: behind,
         run,
+    }
+}
+
+// What stops a run.
+fn halt_of(read: RecordRead, place: usize) -> Halt
+    ensures { λ r. ⌜ r ≡ haltOf place read ⌝ }
+{
+    match read {
+        RecordRead::Record { .. } => Halt::AtEnd,
+        RecordRead::End => Halt::AtEnd,
+        RecordRead::Refused(number) => Halt::AtRefusal { number, place },
+    }
+}
+
+// The records from there on are read and run with no print, to the tape's end or a bad one.
+pub fn run_out(tape: &[u8], run: Run) -> Ran
+    requires { ⌜ Handed (run .state) ⌝ }
+    ensures { λ r. ⌜ (r ≡ ranOf (now (tape .entry)) run) × Handed (r .state) ⌝ }
+{
+    let mut at = run;
+    loop {
+        let read = records::read_record(tape, at.at, at.preceding);
+        let RecordRead::Record { call, next } = read else {
+            let state = at.state;
+            return Ran {
+                state,
+                halt: halt_of(read, at.at),
+            };
+        };
+        let r = run_call(at, call, next);
+        at = r.run;
     }
 }
 

@@ -1,4 +1,4 @@
-//! Compares every byte that a program prints for a tape with what document 01 makes of it.
+//! Compares every byte that the programs print for a tape with what the model makes of it.
 
 use crate::make::{Maker, EDGES, FAMILIES};
 use crate::met::Met;
@@ -21,8 +21,10 @@ const MOST_REPORTS: u64 = 10;
 const STRIDE: u64 = 2_000;
 
 pub struct Wanted {
-    /// The program's command line.
-    pub program: Vec<String>,
+    /// The folder that holds the programs.
+    pub programs: String,
+    /// The words before a program's name on its command line.
+    pub loader: Vec<String>,
     pub tapes: u64,
     pub seed: u64,
     pub only: Option<u64>,
@@ -105,17 +107,37 @@ fn stderr_is_terminal() -> bool {
     place.starts_with("/dev/pts") || place.starts_with("/dev/tty")
 }
 
-// what was met, and how the two differ
+// what was met, and how the programs differ from the model
 fn try_tape(wanted: &Wanted, index: u64, tape: &[u8]) -> (Met, Option<String>) {
     let ran = match run(tape) {
         Ok(ran) => ran,
         Err(text) => return (Met::default(), Some(format!("within the model: {text}"))),
     };
-    let found = match start(&wanted.program, tape, index % 8 == 1, ran.out.len()) {
-        Ok(printed) => difference(&ran.out, &printed),
-        Err(text) => Some(text),
-    };
+    let texts = [("tape_run", &ran.tape_run), ("tape_why", &ran.tape_why)];
+    let found: Vec<String> = texts
+        .into_iter()
+        .filter_map(|(name, text)| {
+            let found = try_program(wanted, name, tape, index % 8 == 1, text)?;
+            Some(format!("{name}: {found}"))
+        })
+        .collect();
+    let found = Some(found.join("\n")).filter(|found| !found.is_empty());
     (ran.met, found)
+}
+
+fn try_program(
+    wanted: &Wanted,
+    name: &str,
+    tape: &[u8],
+    halved: bool,
+    model: &[u8],
+) -> Option<String> {
+    let mut words = wanted.loader.clone();
+    words.push(format!("{}/{name}", wanted.programs));
+    match start(&words, tape, halved, model.len()) {
+        Ok(printed) => difference(model, &printed),
+        Err(text) => Some(text),
+    }
 }
 
 struct Printed {

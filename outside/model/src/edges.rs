@@ -1,4 +1,4 @@
-//! Tapes at the borders of document 01, a fixed list that is run first, whatever the seed.
+//! Tapes at the borders of document 01 and Q-1, a fixed list that is run first, whatever the seed.
 
 use crate::layer::{Call, GREATEST};
 use crate::number::write;
@@ -62,6 +62,8 @@ pub fn edges() -> Vec<Vec<u8>> {
     all.extend(sums());
     all.extend(tasks());
     all.extend(lengths());
+    all.extend(boards());
+    all.extend(ends());
     all
 }
 
@@ -393,5 +395,110 @@ fn lengths() -> Vec<Vec<u8>> {
         all.push(bytes);
     }
     all.push(vec![1; 140_000]);
+    all
+}
+
+// boards of one line to 32: all D equal, or rising with the task
+fn boards() -> Vec<Vec<u8>> {
+    let mut all = Vec::new();
+    for (count, limit) in [(1, 1), (1, 32), (2, 16), (16, 2), (31, 1), (32, 1)] {
+        let equal = vec![line(40, 7, limit); count];
+        let rising = (0..count as u8).map(|task| line(40 + u64::from(task), 200 - task, limit));
+        for lines in [equal, rising.collect()] {
+            all.push(tape(&lines, &[]));
+            all.extend(filled(&lines, 0));
+            all.extend(filled(&lines, 1));
+        }
+    }
+    all
+}
+
+// all jobs that the limits allow, some ticks apart, and one call more; where D rises, those of
+// falling tasks one tick apart are due together
+fn filled(lines: &[Line], ticks: u64) -> Vec<Vec<u8>> {
+    use Call::{Activate, Terminate, Tick};
+    let count = lines.len() as u8;
+    let limit = usize::from(lines[0].limit);
+    let rising: Vec<u8> = (0..count).collect();
+    let falling: Vec<u8> = (0..count).rev().collect();
+    let mut all = Vec::new();
+    for tasks in [rising, falling] {
+        for last in [Tick, Terminate, Activate(count), Activate(0)] {
+            let tasks = tasks.repeat(limit).into_iter();
+            let mut records: Vec<(u64, Call)> = tasks.map(|task| (ticks, Activate(task))).collect();
+            records.push((0, last));
+            all.push(tape(lines, &records));
+        }
+    }
+    all
+}
+
+// boards of P with a fourth line, and what may come last
+fn ends() -> Vec<Vec<u8>> {
+    use Call::{Activate, Chain, Terminate, Tick};
+    let lines = [
+        line(3, 12, 2),
+        line(5, 11, 2),
+        line(5, 10, 2),
+        line(8, 9, 1),
+    ];
+    let boards: [&[(u64, Call)]; 10] = [
+        // all four reasons
+        &[(0, Activate(2)), (0, Activate(1)), (3, Activate(0))],
+        // a task's first job runs, its second waits behind another's
+        &[(0, Activate(1)), (0, Activate(2)), (0, Activate(1))],
+        &[(0, Activate(1)), (2, Activate(0)), (1, Activate(1))],
+        // its first was there second, its second is due later
+        &[(0, Activate(2)), (0, Activate(1)), (1, Activate(1))],
+        &[(0, Activate(2)), (2, Activate(0)), (1, Activate(0))],
+        // three due together; two due together behind an earlier one
+        &[(0, Activate(2)), (0, Activate(1)), (2, Activate(0))],
+        &[(0, Activate(0)), (0, Activate(2)), (0, Activate(1))],
+        // four deadlines
+        &[
+            (0, Activate(3)),
+            (0, Activate(0)),
+            (0, Activate(1)),
+            (1, Activate(2)),
+        ],
+        // six jobs due together
+        &[
+            (0, Activate(2)),
+            (0, Activate(1)),
+            (0, Activate(1)),
+            (0, Activate(2)),
+            (2, Activate(0)),
+            (0, Activate(0)),
+        ],
+        // due at the greatest tick
+        &[
+            (GREATEST - 8, Activate(3)),
+            (3, Activate(2)),
+            (2, Activate(0)),
+        ],
+    ];
+    let calls: [&[(u64, Call)]; 9] = [
+        &[],
+        &[(0, Terminate)],
+        &[(0, Terminate), (1, Terminate)],
+        &[(0, Chain(0))],
+        &[(0, Chain(3))],
+        // late, and then refused
+        &[(3, Tick)],
+        &[(3, Activate(4))],
+        &[(0, Chain(255))],
+        &[(0, Activate(1)), (0, Activate(1)), (0, Activate(1))],
+    ];
+    // behind a bad record nothing is called
+    let bad: [&[u8]; 4] = [&[1, 0], &[0x80, 0, 2, 0], &[4, 0, 2, 0], &[0xFF; 11]];
+    let mut all = Vec::new();
+    for board in boards {
+        for last in calls {
+            all.push(tape(&lines, &[board, last].concat()));
+        }
+        for last in bad {
+            all.push(joined(&[&tape(&lines, board), last]));
+        }
+    }
     all
 }

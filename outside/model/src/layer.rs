@@ -67,6 +67,10 @@ impl Layer {
         }
     }
 
+    pub fn lines(&self) -> &[Line] {
+        &self.lines
+    }
+
     /// The pending jobs, ordered by absolute deadline.
     pub fn list(&self) -> &[Job] {
         &self.list

@@ -1,4 +1,4 @@
-//! Document 01 written a second time, from its words alone, and a comparer of what both print.
+//! Document 01 and Q-1 of document 02 written a second time, from their words alone, and a comparer of what both print.
 
 pub mod compare;
 pub mod edges;
@@ -13,3 +13,4 @@ pub mod program;
 pub mod random;
 pub mod table;
 pub mod tape;
+pub mod why;

@@ -1,24 +1,28 @@
-//! The command line: compare, print, make; no section of document 01.
+//! The command line: compare, print, why, make; no section of a document.
 
 use model::compare::{compare, Wanted};
 use model::make::Maker;
-use model::program::run;
+use model::program::{run, Ran};
 use std::io::{self, Read, Write};
 use std::process::exit;
 use std::time::{SystemTime, UNIX_EPOCH};
 
 const USAGE: &str = "\
-model compare --program WORD.. [--] [--tapes N] [--seed S] [--only I] [--repeat COMMAND]
-    runs the program on N tapes (20000) and compares every byte it prints;
-    the program's words go up to a word -- or the end; COMMAND is named as the one that repeats a tape
+model compare --programs FOLDER [--loader WORD.. [--]] [--tapes N] [--seed S] [--only I] [--repeat COMMAND]
+    runs the folder's tape_run and tape_why on N tapes (20000) and compares every byte they print;
+    the loader's words stand before a program's name and go up to a word -- or the end;
+    COMMAND is named as the one that repeats a tape
 model print < TAPE
-    what the model prints for one tape
+    what the model prints for one tape, as tape_run does
+model why < TAPE
+    the same, as tape_why does
 model make --seed S --only I > TAPE
     writes one tape
 ";
 
 struct Words {
-    program: Vec<String>,
+    programs: Option<String>,
+    loader: Vec<String>,
     tapes: u64,
     seed: Option<u64>,
     only: Option<u64>,
@@ -39,7 +43,8 @@ fn number(name: &str, word: Option<String>) -> u64 {
 
 fn read_words(mut words: impl Iterator<Item = String>) -> Words {
     let mut read = Words {
-        program: Vec::new(),
+        programs: None,
+        loader: Vec::new(),
         tapes: 20_000,
         seed: None,
         only: None,
@@ -47,7 +52,8 @@ fn read_words(mut words: impl Iterator<Item = String>) -> Words {
     };
     while let Some(word) = words.next() {
         match word.as_str() {
-            "--program" => read.program = words.by_ref().take_while(|word| word != "--").collect(),
+            "--programs" => read.programs = words.next(),
+            "--loader" => read.loader = words.by_ref().take_while(|word| word != "--").collect(),
             "--tapes" => read.tapes = number("--tapes", words.next()),
             "--seed" => read.seed = Some(number("--seed", words.next())),
             "--only" => read.only = Some(number("--only", words.next())),
@@ -64,11 +70,29 @@ fn seed_from_clock() -> u64 {
     now.map_or(1, |past| past.as_micros() as u64)
 }
 
-fn print() -> Result<(), String> {
+fn run_input() -> Result<Ran, String> {
     let mut tape = Vec::new();
     let read = io::stdin().read_to_end(&mut tape);
     read.map_err(|error| format!("can't read the tape: {error}"))?;
-    show(&run(&tape)?.out)
+    run(&tape)
+}
+
+fn wanted(words: Words) -> Wanted {
+    let programs = words
+        .programs
+        .unwrap_or_else(|| misused("compare takes --programs"));
+    let mut again = format!("model compare --programs {programs}");
+    if !words.loader.is_empty() {
+        again += &format!(" --loader {} --", words.loader.join(" "));
+    }
+    Wanted {
+        programs,
+        loader: words.loader,
+        tapes: words.tapes,
+        seed: words.seed.unwrap_or_else(seed_from_clock),
+        only: words.only,
+        repeat: words.repeat.unwrap_or(again),
+    }
 }
 
 fn make(words: &Words) -> Result<(), String> {
@@ -88,19 +112,12 @@ fn main() {
     let command = words.next().unwrap_or_default();
     let words = read_words(words);
     let done = match command.as_str() {
-        "compare" if words.program.is_empty() => misused("compare takes --program"),
         "compare" => {
-            let again = format!("model compare --program {} --", words.program.join(" "));
-            let differ = compare(&Wanted {
-                program: words.program,
-                tapes: words.tapes,
-                seed: words.seed.unwrap_or_else(seed_from_clock),
-                only: words.only,
-                repeat: words.repeat.unwrap_or(again),
-            });
-            exit(i32::from(differ > 0));
+            let wanted = wanted(words);
+            exit(i32::from(compare(&wanted) > 0));
         }
-        "print" => print(),
+        "print" => run_input().and_then(|ran| show(&ran.tape_run)),
+        "why" => run_input().and_then(|ran| show(&ran.tape_why)),
         "make" => make(&words),
         _ => misused("a command is missing"),
     };

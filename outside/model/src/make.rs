@@ -1,6 +1,7 @@
 //! Tapes from a seed, in families; each is made from seed and index alone.
 
 mod bytes;
+mod ends;
 mod records;
 mod refused;
 mod tables;
@@ -9,12 +10,13 @@ use crate::edges::edges;
 use crate::random::Random;
 use crate::table::{Line, MOST};
 use bytes::{damaged, random_records, small_bytes};
+use ends::ends;
 use records::{far, fill, long, mixed, nest};
 use refused::refused_table;
 use tables::{length, lengths, limits, mixed_table, with_priorities};
 
 /// The families that are drawn, with their weights.
-pub const FAMILIES: [(Family, &str, u64); 14] = [
+pub const FAMILIES: [(Family, &str, u64); 15] = [
     (Family::Mixed, "valid: mixed", 230),
     (Family::EqualD, "valid: all D equal", 50),
     (Family::Ones, "valid: 32 lines of limit 1", 50),
@@ -24,6 +26,7 @@ pub const FAMILIES: [(Family, &str, u64); 14] = [
     (Family::Nest, "valid: nest", 80),
     (Family::Far, "valid: near the greatest tick", 60),
     (Family::Long, "valid: long", 4),
+    (Family::Ends, "ends with jobs pending", 200),
     (Family::RefusedTable, "tables to be refused", 100),
     (Family::Damaged, "damaged", 160),
     (Family::RandomBytes, "random bytes", 40),
@@ -45,6 +48,7 @@ pub enum Family {
     Nest,
     Far,
     Long,
+    Ends,
     RefusedTable,
     Damaged,
     RandomBytes,
@@ -126,6 +130,7 @@ pub fn draw(family: Family, random: &mut Random) -> Vec<u8> {
         Family::Nest => nest(random),
         Family::Far => far(random),
         Family::Long => long(random),
+        Family::Ends => ends(random),
         Family::RefusedTable => refused_table(random),
         Family::Damaged => damaged(random),
         Family::RandomBytes => {

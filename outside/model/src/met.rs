@@ -3,6 +3,7 @@
 use crate::kernel::Kernel;
 use crate::layer::{Answer, Call, KernelCall, Layer};
 use crate::tape::kind;
+use crate::why::Reason;
 use std::fmt;
 
 #[derive(Clone, Debug, Default)]
@@ -23,6 +24,8 @@ pub struct Met {
     pub fullest: u64,
     /// calls with another, and with two other pending jobs due with the running one
     pub same_due: [u64; 2],
+    /// at the tapes' ends: none pending, running, earlier, there first
+    pub reasons: [u64; 4],
     /// tapes that were written again as they were
     pub written: u64,
     pub lines: u64,
@@ -52,7 +55,17 @@ impl Met {
         }
     }
 
-    /// What was printed in all.
+    /// Why a task waits at a tape's end.
+    pub fn reason(&mut self, reason: Reason) {
+        self.reasons[match reason {
+            Reason::NonePending => 0,
+            Reason::Runs => 1,
+            Reason::Earlier(_) => 2,
+            Reason::ThereFirst(_) => 3,
+        }] += 1;
+    }
+
+    /// What a program prints in all.
     pub fn printed(&mut self, out: &[u8]) {
         self.lines += out.iter().filter(|byte| **byte == b'\n').count() as u64;
         self.bytes += out.len() as u64;
@@ -65,6 +78,7 @@ impl Met {
         add_each(&mut self.table_refusals, &other.table_refusals);
         add_each(&mut self.kernel_calls, &other.kernel_calls);
         add_each(&mut self.same_due, &other.same_due);
+        add_each(&mut self.reasons, &other.reasons);
         self.late += other.late;
         self.most_late = self.most_late.max(other.most_late);
         self.deepest = self.deepest.max(other.deepest);
@@ -127,6 +141,14 @@ impl fmt::Display for Met {
         let [one, two] = self.same_due;
         let due = [("with one more", one), ("with two more", two)];
         row(f, "calls, same due", &due)?;
+        let [none, runs, earlier, first] = self.reasons;
+        let reasons = [
+            ("none pending", none),
+            ("running", runs),
+            ("earlier", earlier),
+            ("there first", first),
+        ];
+        row(f, "reasons", &reasons)?;
         row(f, "written again", &[("tapes", self.written)])?;
         row(
             f,

@@ -36,6 +36,11 @@ impl Plain {
         }
     }
 
+    /// So many tasks have a line.
+    pub fn tasks(&self) -> usize {
+        self.tasks.len()
+    }
+
     pub fn now(&self) -> u64 {
         self.now
     }

@@ -1,4 +1,4 @@
-//! Document 01, "The program and one whole run": what is printed for the bytes of a tape.
+//! Document 01, "The program and one whole run", and document 02, Q-1: what is printed for the bytes of a tape.
 
 use crate::history::History;
 use crate::kernel::Kernel;
@@ -7,47 +7,85 @@ use crate::met::Met;
 use crate::plain::Plain;
 use crate::table::{check, Line, MOST};
 use crate::tape::{read_count, read_lines, read_record, write_record, write_table, Read};
+use crate::why::{self, Reason, Why};
 
 /// More bytes of input are refused with 26.
 pub const MOST_BYTES: usize = 65_536;
 
+/// What the two programs print, and what was met on the way.
 pub struct Ran {
-    pub out: Vec<u8>,
+    pub tape_run: Vec<u8>,
+    pub tape_why: Vec<u8>,
     pub met: Met,
 }
 
-/// What is printed; an error where layer, kernel, plain scheduler or history part.
+/// Runs a tape; an error where layer, kernel, plain scheduler or history part.
 pub fn run(bytes: &[u8]) -> Result<Ran, String> {
     let mut met = Met::default();
-    let text = print(bytes, &mut met)?;
-    let out = text.into_bytes();
-    met.printed(&out);
-    Ok(Ran { out, met })
+    let [tape_run, tape_why] = print(bytes, &mut met)?.map(String::into_bytes);
+    met.printed(&tape_run);
+    met.printed(&tape_why);
+    Ok(Ran {
+        tape_run,
+        tape_why,
+        met,
+    })
 }
 
-fn print(bytes: &[u8], met: &mut Met) -> Result<String, String> {
+// the texts of tape_run and tape_why
+fn print(bytes: &[u8], met: &mut Met) -> Result<[String; 2], String> {
+    let (lines, place) = match read_and_check(bytes, met)? {
+        Ok(read) => read,
+        Err(refusal) => return Ok([refusal.clone(), refusal]),
+    };
+    let mut heads = Heads::fresh(&lines);
+    let (calls, bad_record) = call_all(bytes, place, &mut heads, met)?;
+    heads.same_in_the_end()?;
+    let mut whys = String::new();
+    for (task, reason) in heads.reasons()?.into_iter().enumerate() {
+        met.reason(reason);
+        whys += &reason_text(task, reason);
+    }
+    let calls = "tick res run due call late\n".to_string() + &calls;
+    Ok([calls + &bad_record, whys + &bad_record])
+}
+
+// an accepted table and the place after it, or the one line of its refusal
+fn read_and_check(
+    bytes: &[u8],
+    met: &mut Met,
+) -> Result<Result<(Vec<Line>, usize), String>, String> {
     if bytes.len() > MOST_BYTES {
-        return Ok(bad_tape(26, MOST_BYTES, met));
+        return Ok(Err(bad_tape(26, MOST_BYTES, met)));
     }
     let (count, place) = match read_count(bytes) {
         Ok(read) => read,
-        Err(number) => return Ok(bad_tape(number, 0, met)),
+        Err(number) => return Ok(Err(bad_tape(number, 0, met))),
     };
     // a count above 32 is refused as soon as it is read
     if count > MOST {
-        return Ok(bad_table(1, None, None, met));
+        return Ok(Err(bad_table(1, None, None, met)));
     }
     let (lines, place) = match read_lines(bytes, count, place) {
         Ok(read) => read,
-        Err(number) => return Ok(bad_tape(number, 0, met)),
+        Err(number) => return Ok(Err(bad_tape(number, 0, met))),
     };
     same_table(bytes, &lines, place)?;
     if let Err(refusal) = check(&lines) {
         let (first, second) = (refusal.first, refusal.second);
-        return Ok(bad_table(refusal.number, first, second, met));
+        return Ok(Err(bad_table(refusal.number, first, second, met)));
     }
-    let mut text = "tick res run due call late\n".to_string();
-    let mut heads = Heads::fresh(&lines);
+    Ok(Ok((lines, place)))
+}
+
+// the lines of all calls, and the line of a bad record if there is one
+fn call_all(
+    bytes: &[u8],
+    place: usize,
+    heads: &mut Heads,
+    met: &mut Met,
+) -> Result<(String, String), String> {
+    let mut text = String::new();
     let (mut place, mut preceding) = (place, 0);
     loop {
         match read_record(bytes, place, preceding) {
@@ -59,16 +97,11 @@ fn print(bytes: &[u8], met: &mut Met) -> Result<String, String> {
             }
             Read::End => {
                 met.written += 1;
-                break;
+                return Ok((text, String::new()));
             }
-            Read::Refused(number) => {
-                text += &bad_tape(number, place, met);
-                break;
-            }
+            Read::Refused(number) => return Ok((text, bad_tape(number, place, met))),
         }
     }
-    heads.same_in_the_end()?;
-    Ok(text)
 }
 
 fn bad_tape(number: u8, place: usize, met: &mut Met) -> String {
@@ -98,6 +131,22 @@ fn kernel_call_text(call: Option<KernelCall>) -> String {
 fn late_text(late: &[u8]) -> String {
     let tasks: Vec<String> = late.iter().map(u8::to_string).collect();
     or_dash(Some(tasks.join(",")).filter(|text| !text.is_empty()))
+}
+
+fn reason_text(task: usize, reason: Reason) -> String {
+    let text = match reason {
+        Reason::NonePending => "has no pending job".to_string(),
+        Reason::Runs => "is running".to_string(),
+        Reason::Earlier(job) => format!(
+            "is waiting: task {} is running with the earlier deadline {}",
+            job.task, job.due
+        ),
+        Reason::ThereFirst(job) => format!(
+            "is waiting: task {} was there first and is running with the same deadline {}",
+            job.task, job.due
+        ),
+    };
+    format!("task {task} {text}\n")
 }
 
 // a table that was read, written again, gives the same bytes
@@ -177,6 +226,10 @@ impl Heads {
         met.call(call, &answer, &self.layer, &self.kernel);
         let running = self.same_running(tick, call)?;
         self.same_pending(tick, call)?;
+        // all tasks with a line, and two without
+        let count = self.lines.len() as u8;
+        self.whys((0..=count).chain([u8::MAX]))
+            .map_err(|text| format!("after {call:?} at tick {tick} {text}"))?;
         Ok(line(tick, &answer, running))
     }
 
@@ -215,6 +268,35 @@ impl Heads {
                 "after {call:?} at tick {tick} other jobs are pending for the plain scheduler than for the layer"
             ))
         }
+    }
+
+    /// The reason of each task with a line; any other number is refused.
+    pub fn reasons(&self) -> Result<Vec<Reason>, String> {
+        let whys = self.whys(0..=u8::MAX)?;
+        let (with_line, without) = whys.split_at(self.lines.len());
+        let reasons: Vec<Reason> = with_line.iter().filter_map(|why| why.ok()).collect();
+        if reasons.len() < with_line.len() || without.iter().any(|why| *why != Err(3)) {
+            return Err("3 for a task with a line, or no 3 for one without".to_string());
+        }
+        Ok(reasons)
+    }
+
+    // layer and plain scheduler give the same answer
+    fn whys(&self, tasks: impl Iterator<Item = u8>) -> Result<Vec<Why>, String> {
+        let runs = self.kernel.running();
+        tasks
+            .map(|task| {
+                let of_layer = why::of_layer(&self.layer, runs, task)?;
+                let of_plain = why::of_plain(&self.plain, task);
+                if of_layer == of_plain {
+                    Ok(of_layer)
+                } else {
+                    Err(format!(
+                        "task {task} is asked: {of_layer:?} for the layer, {of_plain:?} for the plain scheduler"
+                    ))
+                }
+            })
+            .collect()
     }
 
     /// Late jobs and counts that follow from the history are the layer's.

@@ -27,7 +27,7 @@ fn refusal(number: u8, first: Option<usize>, second: Option<usize>) -> Result<()
 }
 
 fn printed(tape: &[u8]) -> String {
-    String::from_utf8(run(tape).expect("all agree").out).expect("text")
+    String::from_utf8(run(tape).expect("all agree").tape_run).expect("text")
 }
 
 // what is printed for records on table P, without the header

@@ -55,6 +55,7 @@ fn fill_and_drain() {
     let met = valid(Family::Fill, 100);
     assert!(met.fullest == 32 && met.most_late == 32);
     assert!(met.results[2] > 20 && met.results[4] > 100);
+    assert!(met.reasons.iter().all(|count| *count > 5));
 }
 
 #[test]
@@ -80,6 +81,32 @@ fn far() {
 fn long() {
     let met = valid(Family::Long, 4);
     assert!(met.lines > 60_000);
+}
+
+#[test]
+fn ends_with_jobs_pending() {
+    let met = met(Family::Ends, 400);
+    assert_eq!(met.table_refusals, [0; 6]);
+    assert!(met.reasons.iter().all(|count| *count > 300));
+    for number in 20..24 {
+        assert!(met.tape_refusals[number] > 3);
+    }
+    assert!(met.fullest == 32 && met.late > 400);
+}
+
+#[test]
+fn each_reason_is_met_at_the_end_of_many_tapes() {
+    let maker = Maker::default();
+    let first = maker.edges() as u64;
+    let mut tapes = [0; 4];
+    for index in first..first + 1_000 {
+        let tape = maker.tape(6, index).1;
+        let reasons = run(&tape).expect("all agree").met.reasons;
+        for (tapes, count) in tapes.iter_mut().zip(reasons) {
+            *tapes += u64::from(count > 0);
+        }
+    }
+    assert!(tapes.iter().all(|count| *count > 100), "{tapes:?}");
 }
 
 #[test]
@@ -130,6 +157,7 @@ fn edges() {
     for result in [0, 2, 3, 4, 9] {
         assert!(met.results[result] > 5);
     }
+    assert!(met.reasons.iter().all(|count| *count > 300));
 }
 
 #[test]

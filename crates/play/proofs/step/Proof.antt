@@ -21,6 +21,12 @@ counts-requires c κs = search needs
 returns-2 : tie.Need-returns-2
 returns-2 c = search needs
 
+waits-requires : tie.Need-waits-requires
+waits-requires c κs = search needs
+
+returns-3 : tie.Need-returns-3
+returns-3 c = search needs
+
 call-at-requires : tie.Need-call-at-requires
 call-at-requires c κs = search needs
 
@@ -33,8 +39,8 @@ tick-of-requires c κs = search needs
 told-requires : tie.Need-told-requires
 told-requires c κs = search needs
 
-returns-3 : tie.Need-returns-3
-returns-3 c = search needs
+returns-4 : tie.Need-returns-4
+returns-4 c = search needs
 
 pub step-spec : {M : Type 1} → statement M
 step-spec =
@@ -46,8 +52,10 @@ step-spec =
     returns
     counts-requires
     returns-2
+    waits-requires
+    returns-3
     call-at-requires
     call-requires
     tick-of-requires
     told-requires
-    returns-3)
+    returns-4)

@@ -1,6 +1,6 @@
 //! Records behind a table that the check of document 01 accepts, drawn at random.
 
-use super::tables::{limits, mixed_table, with_priorities};
+use super::tables::{limits, mixed_table, raise_limits, with_priorities};
 use crate::edges::{record, table};
 use crate::layer::{Call, GREATEST};
 use crate::plain::Plain;
@@ -9,11 +9,11 @@ use crate::random::Random;
 use crate::table::Line;
 
 // a tape in the making; the plain scheduler tells what is pending
-struct Drawn {
-    lines: Vec<Line>,
-    plain: Plain,
-    tick: u64,
-    bytes: Vec<u8>,
+pub struct Drawn {
+    pub lines: Vec<Line>,
+    pub plain: Plain,
+    pub tick: u64,
+    pub bytes: Vec<u8>,
 }
 
 // how a tape's calls are spread
@@ -46,7 +46,7 @@ impl Habit {
 }
 
 impl Drawn {
-    fn start(lines: Vec<Line>) -> Drawn {
+    pub fn start(lines: Vec<Line>) -> Drawn {
         Drawn {
             bytes: table(&lines),
             plain: Plain::new(&lines),
@@ -55,7 +55,7 @@ impl Drawn {
         }
     }
 
-    fn put(&mut self, ticks: u64, call: Call) {
+    pub fn put(&mut self, ticks: u64, call: Call) {
         record(ticks, call, &mut self.bytes);
         self.tick = self.tick.saturating_add(ticks);
         self.plain.call(self.tick, call);
@@ -93,7 +93,7 @@ impl Drawn {
         }
     }
 
-    fn task(&self, strange: u64, random: &mut Random) -> u8 {
+    pub fn task(&self, strange: u64, random: &mut Random) -> u8 {
         let count = self.lines.len() as u64;
         if random.one_in(strange) {
             return random.pick(&[count, count + 1, 31, 32, 127, 128, 255]) as u8;
@@ -141,10 +141,35 @@ impl Drawn {
             .collect()
     }
 
-    fn has_room(&self, task: usize) -> bool {
+    pub fn has_room(&self, task: usize) -> bool {
         let jobs = self.plain.jobs().iter();
         let pending = jobs.filter(|job| usize::from(job.task) == task).count();
         pending < usize::from(self.lines[task].limit)
+    }
+
+    fn limits(&self) -> usize {
+        self.lines.iter().map(|line| usize::from(line.limit)).sum()
+    }
+
+    /// Activates until all limits are reached.
+    pub fn burst(&mut self, random: &mut Random) {
+        let still = random.pick(&[8, 14, 15, 16]);
+        let count = self.lines.len();
+        let first = random.place(count);
+        let in_turn = random.one_in(2);
+        let mut turn = 0;
+        while self.plain.jobs().len() < self.limits() {
+            let ticks = self.ticks(still, random);
+            let mut task = if in_turn { turn } else { random.place(count) };
+            turn = (turn + 1) % count;
+            // most go where there is room, from some line on
+            if !random.one_in(8) {
+                let from = if in_turn { task } else { first };
+                let mut all = (from..count).chain(0..from);
+                task = all.find(|task| self.has_room(*task)).unwrap_or(task);
+            }
+            self.put(ticks, Call::Activate(task as u8));
+        }
     }
 
     fn any(&mut self, habit: &Habit, random: &mut Random) {
@@ -161,7 +186,7 @@ impl Drawn {
         self.put(ticks, call);
     }
 
-    fn some(&mut self, records: u64, random: &mut Random) {
+    pub fn some(&mut self, records: u64, random: &mut Random) {
         let habit = Habit::any(random);
         for _ in 0..records {
             self.any(&habit, random);
@@ -178,34 +203,16 @@ pub fn mixed(lines: Vec<Line>, random: &mut Random) -> Vec<u8> {
     tape.bytes
 }
 
-// burst until all limits are reached, and past that; then drain, and past that
+// burst until all limits are reached, and past that; then drain, and past that; some end before all is drained
 pub fn fill(mut lines: Vec<Line>, random: &mut Random) -> Vec<u8> {
     // the sum of limits is 32 mostly
-    let sum: u8 = lines.iter().map(|line| line.limit).sum();
-    let place = random.place(lines.len());
     if !random.one_in(4) {
-        lines[place].limit += 32 - sum;
+        raise_limits(&mut lines, random);
     }
-    let sum: usize = lines.iter().map(|line| usize::from(line.limit)).sum();
     let mut tape = Drawn::start(lines);
-    for _ in 0..random.from_to(1, 3) {
-        let still = random.pick(&[8, 14, 15, 16]);
-        let count = tape.lines.len();
-        let first = random.place(count);
-        let in_turn = random.one_in(2);
-        let mut turn = 0;
-        while tape.plain.jobs().len() < sum {
-            let ticks = tape.ticks(still, random);
-            let mut task = if in_turn { turn } else { random.place(count) };
-            turn = (turn + 1) % count;
-            // most go where there is room, from some line on
-            if !random.one_in(8) {
-                let from = if in_turn { task } else { first };
-                let mut all = (from..count).chain(0..from);
-                task = all.find(|task| tape.has_room(*task)).unwrap_or(task);
-            }
-            tape.put(ticks, Call::Activate(task as u8));
-        }
+    let rounds = random.from_to(1, 3);
+    for round in 1..=rounds {
+        tape.burst(random);
         for _ in 0..random.below(5) {
             let task = tape.task(9, random);
             let ticks = tape.ticks(14, random);
@@ -213,7 +220,13 @@ pub fn fill(mut lines: Vec<Line>, random: &mut Random) -> Vec<u8> {
             tape.put(ticks, call);
         }
         let still = random.pick(&[2, 8, 14, 16]);
-        while !tape.plain.jobs().is_empty() {
+        let leave = if round == rounds {
+            let some = random.place(tape.limits());
+            random.pick(&[0, 0, some, tape.limits()])
+        } else {
+            0
+        };
+        while tape.plain.jobs().len() > leave {
             let ticks = tape.ticks(still, random);
             tape.put(ticks, Call::Terminate);
         }

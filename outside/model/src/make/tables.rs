@@ -79,6 +79,13 @@ pub fn limits(lines: &mut [Line], random: &mut Random) {
     }
 }
 
+// one line's limit brings the sum to 32
+pub fn raise_limits(lines: &mut [Line], random: &mut Random) {
+    let sum: usize = lines.iter().map(|line| usize::from(line.limit)).sum();
+    let place = random.place(lines.len());
+    lines[place].limit += (MOST - sum) as u8;
+}
+
 pub fn mixed_table(random: &mut Random) -> Vec<Line> {
     let count = match random.below(4) {
         0 => random.from_to(1, 3),
