@@ -4,7 +4,7 @@ use crate::layer::{Call, GREATEST};
 use crate::number::write;
 use crate::program::MOST_BYTES;
 use crate::table::{Line, LONGEST};
-use crate::tape::kind;
+use crate::tape::{kind, table_bytes};
 
 /// Table P of the document.
 pub const P: [u8; 10] = [3, 3, 12, 2, 5, 11, 2, 5, 10, 2];
@@ -13,18 +13,6 @@ pub const P: [u8; 10] = [3, 3, 12, 2, 5, 11, 2, 5, 10, 2];
 pub const RUN: [u8; 22] = [
     1, 0, 0, 1, 0, 2, 1, 0, 1, 2, 1, 1, 2, 0, 2, 0, 2, 1, 0, 3, 2, 1,
 ];
-
-/// A table as it is on tape, also one that no writer would write.
-pub fn table(lines: &[Line]) -> Vec<u8> {
-    let mut bytes = Vec::new();
-    write(lines.len() as u64, &mut bytes);
-    for line in lines {
-        write(line.d, &mut bytes);
-        write(u64::from(line.priority), &mut bytes);
-        write(u64::from(line.limit), &mut bytes);
-    }
-    bytes
-}
 
 /// A record as it is on tape, with its own ticks.
 pub fn record(ticks: u64, call: Call, bytes: &mut Vec<u8>) {
@@ -37,7 +25,7 @@ pub fn record(ticks: u64, call: Call, bytes: &mut Vec<u8>) {
 }
 
 fn tape(lines: &[Line], records: &[(u64, Call)]) -> Vec<u8> {
-    let mut bytes = table(lines);
+    let mut bytes = table_bytes(lines);
     for (ticks, call) in records {
         record(*ticks, *call, &mut bytes);
     }
@@ -338,7 +326,7 @@ fn tasks() -> Vec<Vec<u8>> {
             all.push(tape(&lines, &records));
         }
         for kind in [1, 3] {
-            all.push(joined(&[&table(&lines), &[kind, 0, 0x80, 0x02]]));
+            all.push(joined(&[&table_bytes(&lines), &[kind, 0, 0x80, 0x02]]));
         }
     }
     all

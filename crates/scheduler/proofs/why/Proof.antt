@@ -1,7 +1,9 @@
 -- `scheduler::why` meets its contract. Assumes nothing.
-use mathlib.Core.Path.{ap, _∙_}
+use mathlib.Core.Path.{_≡_, ap, _∙_}
 use borrow.Author.Needs.{needs}
 use Rattle.rules.specs.declared.Why.the-variants.{Because}
+use Rattle.rules.specs.Words.{only}
+use Rattle.jobs.specs.Listed.{view, isOf, leadOf}
 use Rattle.scheduler.specs.Steps.{reasonOf}
 use Rattle.scheduler.proofs.Handed.{handed-shaped}
 use Rattle.scheduler.proofs.Waits.{refused-why, given-why}
@@ -23,8 +25,8 @@ reason-requires c κs = search needs
 returns-2 : tie.Need-returns-2
 returns-2 c =
     let b = c .before .before .before .before .before in
-    let own = c .before .before .first-of .ensures in
-    let first = c .before .front .ensures in
+    let own : c .before .before .first-of .result ≡ leadOf (only (isOf (b .args .task)) (view (b .args .s .list))) = c .before .before .first-of .ensures in
+    let first : c .before .front .result ≡ leadOf (view (b .args .s .list)) = c .before .front .ensures in
     ap Because (c .reason .ensures ∙ (λ i. reasonOf (b .args .task) (own i) (first i))) ∙ given-why (b .args .s) (b .pre) (b .args .task) (c .before .before .before .if1 .left)
 
 pub why-spec : {M : Type 1} → statement M

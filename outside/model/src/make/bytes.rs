@@ -2,8 +2,8 @@
 
 use super::tables::mixed_table;
 use super::{draw, Family};
-use crate::edges::table;
 use crate::random::Random;
+use crate::tape::table_bytes;
 
 fn short_valid(random: &mut Random) -> Vec<u8> {
     let families = [Family::Mixed, Family::Nest, Family::Far, Family::Fill];
@@ -69,7 +69,7 @@ pub fn small_bytes(random: &mut Random) -> Vec<u8> {
 
 // a good table, then bytes of some kind
 pub fn random_records(random: &mut Random) -> Vec<u8> {
-    let mut bytes = table(&mixed_table(random));
+    let mut bytes = table_bytes(&mixed_table(random));
     let odd = random.pick(&[6, 20, 60]);
     for _ in 0..random.below(120) {
         let any = random.byte();

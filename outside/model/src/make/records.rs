@@ -1,12 +1,13 @@
 //! Records behind a table that the check of document 01 accepts, drawn at random.
 
 use super::tables::{limits, mixed_table, raise_limits, with_priorities};
-use crate::edges::{record, table};
+use crate::edges::record;
 use crate::layer::{Call, GREATEST};
 use crate::plain::Plain;
 use crate::program::MOST_BYTES;
 use crate::random::Random;
 use crate::table::Line;
+use crate::tape::table_bytes;
 
 // a tape in the making; the plain scheduler tells what is pending
 pub struct Drawn {
@@ -48,7 +49,7 @@ impl Habit {
 impl Drawn {
     pub fn start(lines: Vec<Line>) -> Drawn {
         Drawn {
-            bytes: table(&lines),
+            bytes: table_bytes(&lines),
             plain: Plain::new(&lines),
             lines,
             tick: 0,

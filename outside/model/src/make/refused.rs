@@ -1,11 +1,11 @@
 //! Tables to be refused with document 01's 1 to 5, and some at the borders that aren't.
 
 use super::tables::mixed_table;
-use crate::edges::table;
 use crate::layer::GREATEST;
 use crate::number::write;
 use crate::random::Random;
 use crate::table::{Line, LONGEST};
+use crate::tape::table_bytes;
 
 pub fn refused_table(random: &mut Random) -> Vec<u8> {
     let mut lines = mixed_table(random);
@@ -27,7 +27,7 @@ pub fn refused_table(random: &mut Random) -> Vec<u8> {
             }
         }
     }
-    let mut bytes = table(&lines);
+    let mut bytes = table_bytes(&lines);
     tail(&mut bytes, random);
     bytes
 }
