@@ -1,7 +1,7 @@
 -- Every print of tape_why fits into the buffer. Assumes nothing.
-use Prim.Native.Nat.{ℕ, zero, suc, _+_, _*_, _≤_}
-use mathlib.Core.Path.{_≡_, refl, ap, _∙_, subst⁻¹}
-use mathlib.Core.List.{List, [], _∷_, _++_}
+use Prim.Native.Nat.{ℕ, zero, suc, _*_, _≤_}
+use mathlib.Core.Path.{_≡_, refl, subst⁻¹}
+use mathlib.Core.List.{List}
 use native.Mathlib.Omega.{arith}
 use lib.ListN.{length, length-append}
 use Rattle.rules.specs.declared.Named.{Named}
@@ -16,9 +16,9 @@ use Rattle.rules.specs.Table.{Table, size}
 use Rattle.rules.specs.Layer.{Board, fresh}
 use Rattle.rules.specs.Run.{run}
 use Rattle.rules.specs.Tape.{zeroTick, Stop, atEnd, atRefusal, recordsAt}
-use Rattle.rules.specs.Print.{spaced, ended, firstText, secondText, tableText, stopText, opening}
+use Rattle.rules.specs.Print.{spaced, ended, tableText, stopText, opening}
 use Rattle.rules.specs.Why.{why}
-use Rattle.rules.specs.WhyPrint.{whyText, whyLinesFrom, whyLines, whyRecords, insteadText, whyTranscript}
+use Rattle.rules.specs.WhyPrint.{whyText, whyLinesFrom, whyLines, whyTranscript}
 use Rattle.rules.proofs.Checked.{keeps-found}
 use Rattle.transcript.specs.Pieces.{bufferRoom}
 use Rattle.transcript.proofs.Opens.{opening-checks}

@@ -1,7 +1,7 @@
 -- One line after the other, for each task of a state's table. Assumes nothing.
 use Prim.Native.Nat.{ℕ, zero, suc, _+_, _≤_}
 use mathlib.Core.Path.{_≡_, refl, sym, ap, _∙_, subst}
-use mathlib.Core.List.{List, [], _∷_, _++_, append-nil, append-assoc}
+use mathlib.Core.List.{List, [], _++_, append-nil, append-assoc}
 use native.Mathlib.Omega.{arith}
 use Rattle.rules.specs.Table.{Table, size}
 use Rattle.rules.specs.Layer.{Board}

@@ -14,18 +14,18 @@ use Rattle.rules.specs.Run.{Head, freshHead, headRun, Reached}
 use Rattle.rules.specs.Tape.{zeroTick, Stop, atEnd, atRefusal, Records, recordsAt}
 use Rattle.rules.specs.Print.{stopText, opening, openingText}
 use Rattle.rules.specs.Print as print
-use Rattle.rules.specs.WhyPrint.{whyLines, whyRecords, insteadText, whyTranscript}
+use Rattle.rules.specs.WhyPrint.{whyLines, whyRecords, whyTranscript}
 use Rattle.rules.proofs.Opening.{the-type}
 use Rattle.rules.proofs.Checked.{keeps-found, found-keeps}
 use Rattle.rules.proofs.Reached.{head-board, reached-fresh}
-use Rattle.scheduler.specs.State.{stateOf, tableOf, headOf}
+use Rattle.scheduler.specs.State.{tableOf, headOf}
 use Rattle.scheduler.proofs.Back.{table-back, head-back}
 use Rattle.transcript.specs.declared.Opened.{Opened}
 use Rattle.transcript.specs.declared.Ran.{Ran}
-use Rattle.transcript.specs.Pieces.{openedOf, haltFor, ranBy, ranOf}
+use Rattle.transcript.specs.Pieces.{haltText, openedOf, haltFor, ranBy, ranOf}
 use Rattle.transcript.proofs.Opens.{opening-checks}
 use Rattle.transcript.proofs.Ends.{ran-is}
-use Rattle.reasons.specs.Words.{haltText}
+use Rattle.reasons.proofs.Prints.{printed-as}
 
 -- what is put behind an accepted table
 abbrev pub ranText : Ran → List ℕ
@@ -54,10 +54,6 @@ module _ (tape : List ℕ) where
   unfolding openedOf
   answer-is = refl
 
-  whole-is : (a : Opening) → o .answer ≡ a → whyTranscript tape ≡ insteadText a (whyRecords (o .table) rs)
-  unfolding whyTranscript
-  whole-is a e = ap (λ (z : Opening). insteadText z (whyRecords (o .table) rs)) e
-
   ran-opened : check (o .table) ≡ fine → ranOf tape ((openedOf tape) .run) ≡ ranBy (o .table) freshHead rs
   unfolding openedOf
   ran-opened a = ran-is (o .table) freshHead (reached-fresh (o .table) a) tape (o .first) zeroTick
@@ -68,12 +64,12 @@ module _ (tape : List ℕ) where
       let f : check (o .table) ≡ fine = found-keeps (o .table) (keeps-found (o .table) (opening-checks tape a)) in
       ap ranText (g ∙ ap (λ (z : Opened). ranOf tape (z .run)) e ∙ ran-opened f)
       ∙ ran-text (o .table) f rs
-      ∙ sym (whole-is Accepted a)
+      ∙ sym (printed-as tape Accepted a)
 
   pub refused-text : (x : Opened) → x ≡ openedOf tape → OneOf (1 ∷ 2 ∷ []) (tagOf the-type (x .answer)) → openingText (x .answer) ≡ whyTranscript tape
   refused-text x e t = go (x .answer) (sym answer-is ∙ sym (ap (λ (z : Opened). z .answer) e)) t
     where
       go : (a : Opening) → o .answer ≡ a → OneOf (1 ∷ 2 ∷ []) (tagOf the-type a) → openingText a ≡ whyTranscript tape
       go Accepted q t = absurd (⊎-elim {C = ⊥} (λ (z : _≡_ {A = ℕ} 0 1). omega arith) (λ (z : _≡_ {A = ℕ} 0 2). omega arith) t)
-      go (BadTable v) q t = sym (whole-is (BadTable v) q)
-      go (BadTape n p) q t = sym (whole-is (BadTape n p) q)
+      go (BadTable v) q t = sym (printed-as tape (BadTable v) q)
+      go (BadTape n p) q t = sym (printed-as tape (BadTape n p) q)

@@ -1,10 +1,9 @@
 // Q-1 in words: a line that says why a task waits, and what the program tape_why prints for a tape.
-ghost use Prim.Native.Nat.{_≤_};
-ghost use Rattle.rules.specs.Print.{spaced, ended};
+ghost use Rattle.rules.specs.Print.{spaced};
 ghost use Rattle.rules.specs.WhyPrint.{reasonWords, whyWords, whyText, whyLines, whyTranscript};
 ghost use Rattle.scheduler.specs.State.{tableOf, headOf, Handed};
 ghost use Rattle.print.specs.Buffers.{Put};
-ghost use Rattle.reasons.specs.Words.{waitsText, haltText};
+ghost use Rattle.reasons.specs.Words.{waitsText};
 ghost use Rattle.reasons.specs.Claims.{Claims};
 use libc::STDOUT_FILENO;
 use print::ROOM;
@@ -13,7 +12,6 @@ use rules::Reason;
 use rules::Tick;
 use rules::Why;
 use scheduler::State;
-use transcript::Halt;
 
 // ---- a task's line: each part is put at a place, and gives the place behind it
 
@@ -94,17 +92,7 @@ fn lines(out: &mut [u8; ROOM], at: usize, state: State) -> usize
     next
 }
 
-// A bad tape's line; nothing at the tape's end.
-fn halted(out: &mut [u8; ROOM], at: usize, halt: Halt) -> usize
-    ensures { λ r. ⌜ Put (now (out .entry)) at (haltText halt) (now (out .exit)) r ⌝ }
-{
-    match halt {
-        Halt::AtEnd => at,
-        Halt::AtRefusal { number, place } => print::tape_line(out, at, number, place),
-    }
-}
-
-// What is printed for a tape: it is run with no print, and then each task's line is put. A refused table and a bad tape have their one line.
+// What is printed for a tape: it is run with no print, and then each task's line is put, and a bad record's behind them. A table or a tape that is refused before has its one line.
 pub fn text(tape: &[u8], out: &mut [u8; ROOM], at: usize) -> usize
     ensures { λ r. ⌜ Put (now (out .entry)) at (whyTranscript (now (tape .entry))) (now (out .exit)) r ⌝ }
 {
@@ -116,7 +104,7 @@ pub fn text(tape: &[u8], out: &mut [u8; ROOM], at: usize) -> usize
     let ran = transcript::run_out(tape, opened.run);
     let next = lines(out, at, ran.state);
     let halt = ran.halt;
-    halted(out, next, halt)
+    transcript::halt_line(out, next, halt)
 }
 
 // Prints it. False where standard output takes no more.

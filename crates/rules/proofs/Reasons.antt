@@ -4,22 +4,20 @@ use mathlib.Core.Path.{_≡_, refl, ap, sym, _∙_, subst, subst⁻¹}
 use mathlib.Core.Bool.{Bool, true, false, cond}
 use mathlib.Core.List.{List, [], _∷_, _++_}
 use mathlib.Core.Option.{Option, some, none}
-use lib.Dec.{ltb, leb, eqb}
+use lib.Dec.{leb, eqb}
 use native.Mathlib.Omega.{arith}
 use borrow.Author.Tests.{ltb-true, ltb-false, lt-ltb, le-ltb, leb-true, leb-false, le-leb, lt-leb, eqb-true, eqb-false, eq-eqb, ne-eqb}
 use Rattle.rules.specs.declared.Reason.{Reason}
 use Rattle.rules.specs.declared.Reason.the-variants.{NonePending, ItRuns, Earlier, ThereFirst}
-use Rattle.rules.specs.declared.Why.{Why}
 use Rattle.rules.specs.declared.Why.the-variants.{Because, Refused}
 use Rattle.rules.specs.Words.{_if_else_, All}
 use Rattle.rules.specs.Table.{Table, size}
 use Rattle.rules.specs.Jobs.{Job, bare, keyAt}
-use Rattle.rules.specs.Calls.{badTask}
 use Rattle.rules.specs.Layer.{Board, fresh, running, runningJob}
 use Rattle.rules.specs.Run.{run}
-use Rattle.rules.specs.Why.{NotOf, FirstOf, OneOf, Fits, none-pending, it-runs, earlier, there-first, asked, isEarlier, reason, why, TheReason, WhyTrue, WhyRefuses, WhyRefused}
+use Rattle.rules.specs.Why.{NotOf, FirstOf, Fits, none-pending, it-runs, earlier, there-first, asked, isEarlier, reason, why, WhyTrue, WhyRefuses, WhyRefused}
 use Rattle.rules.proofs.Order.{Higher, ranks, before-false, no-greater}
-use Rattle.rules.proofs.Invariant.{Ahead, Ordered, Good}
+use Rattle.rules.proofs.Invariant.{Ahead, Ordered}
 use Rattle.rules.proofs.Step.{fresh-good}
 use Rattle.rules.proofs.First.{first-of, runs-first}
 

@@ -1,6 +1,6 @@
 -- A tape is run to where it stops, record by record. Assumes nothing.
 use Prim.Native.Nat.{ℕ}
-use mathlib.Core.Path.{_≡_, refl, sym, ap, _∙_}
+use mathlib.Core.Path.{_≡_, sym, ap, _∙_}
 use mathlib.Core.Logic.{⊎-elim}
 use mathlib.Core.List.{List, [], _∷_}
 use denote.Enum.Declared.{tagOf}
@@ -23,7 +23,6 @@ use Rattle.scheduler.specs.State.{stateOf, Handed, told}
 use Rattle.scheduler.proofs.Back.{table-back, head-back, step-is}
 use Rattle.scheduler.proofs.Handed.{handed-by}
 use Rattle.transcript.specs.declared.Run.{Run}
-use Rattle.transcript.specs.declared.Ran.{Ran}
 use Rattle.transcript.specs.Pieces.{calledOf, readIn, haltOf, ranBy, ranOf}
 
 module _ (T : Table) (h : Head) (r : Reached T h) (tape : List ℕ) (at : ℕ) (preceding : Tick) where

@@ -55,11 +55,20 @@ calledOf x e n =
 abbrev pub readIn : List ℕ → Run → RecordRead
 readIn tape x = recordAt tape (x .at) (x .preceding)
 
--- a bad tape's line, with the place of the record
+-- what stops a run at a place: the tape's end, or a refusal
+abbrev pub haltOf : ℕ → RecordRead → Halt
+haltOf p (Record e n) = AtEnd
+haltOf p End = AtEnd
+haltOf p (RecordRead.Refused k) = AtRefusal k p
+
+-- a bad tape's line; nothing at the tape's end
+abbrev pub haltText : Halt → List ℕ
+haltText AtEnd = []
+haltText (AtRefusal k p) = ended (tapeText k p)
+
+-- the line of what stops it
 abbrev pub stopLine : ℕ → RecordRead → List ℕ
-stopLine p (Record e n) = []
-stopLine p End = []
-stopLine p (RecordRead.Refused k) = ended (tapeText k p)
+stopLine p r = haltText (haltOf p r)
 
 -- the line that it prints: the call's, or what stops the run
 abbrev pub lineText : Run → RecordRead → List ℕ
@@ -87,13 +96,7 @@ pub record NextLine (tape : List ℕ) (x : Run) (old : List ℕ) (at : ℕ) (r :
 
 -- ---- run to where it stops
 
--- what stops a run at a place: the tape's end, or a refusal
-abbrev pub haltOf : ℕ → RecordRead → Halt
-haltOf p (Record e n) = AtEnd
-haltOf p End = AtEnd
-haltOf p (RecordRead.Refused k) = AtRefusal k p
-
--- and what stopped the reading of a whole tape
+-- what stopped the reading of a whole tape
 abbrev pub haltFor : Stop → Halt
 haltFor atEnd = AtEnd
 haltFor (atRefusal k p) = AtRefusal k p

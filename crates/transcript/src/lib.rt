@@ -5,7 +5,7 @@ ghost use lib.ListN.{length};
 ghost use Rattle.rules.specs.Print.{unopened, countAbove, openingText};
 ghost use Rattle.scheduler.specs.State.{Handed};
 ghost use Rattle.print.specs.Buffers.{Put};
-ghost use Rattle.transcript.specs.Pieces.{openedAs, Opens, calledOf, stopLine, haltOf, ranOf, bufferRoom, lineMost, NextLine, Piece};
+ghost use Rattle.transcript.specs.Pieces.{openedAs, Opens, calledOf, haltOf, haltText, stopLine, ranOf, bufferRoom, lineMost, NextLine, Piece};
 ghost use Rattle.transcript.specs.Claims.{Claims};
 use libc::STDOUT_FILENO;
 use print::ROOM;
@@ -163,15 +163,33 @@ fn run_call(run: Run, call: Call, next: usize) -> Called
     }
 }
 
+// What stops a run.
+fn halt_of(read: RecordRead, place: usize) -> Halt
+    ensures { λ r. ⌜ r ≡ haltOf place read ⌝ }
+{
+    match read {
+        RecordRead::Record { .. } => Halt::AtEnd,
+        RecordRead::End => Halt::AtEnd,
+        RecordRead::Refused(number) => Halt::AtRefusal { number, place },
+    }
+}
+
 // A bad tape's line; nothing at the tape's end.
+pub fn halt_line(out: &mut [u8; ROOM], at: usize, halt: Halt) -> usize
+    ensures { λ r. ⌜ Put (now (out .entry)) at (haltText halt) (now (out .exit)) r ⌝ }
+{
+    match halt {
+        Halt::AtEnd => at,
+        Halt::AtRefusal { number, place } => print::tape_line(out, at, number, place),
+    }
+}
+
+// The line of what stops a run.
 fn stopped(out: &mut [u8; ROOM], at: usize, read: RecordRead, place: usize) -> usize
     ensures { λ r. ⌜ Put (now (out .entry)) at (stopLine place read) (now (out .exit)) r ⌝ }
 {
-    match read {
-        RecordRead::Record { .. } => at,
-        RecordRead::End => at,
-        RecordRead::Refused(number) => print::tape_line(out, at, number, place),
-    }
+    let halt = halt_of(read, place);
+    halt_line(out, at, halt)
 }
 
 // The next record is read and run, and its line put at a place. The end of the tape and a refusal stop the run.
@@ -196,17 +214,6 @@ pub fn next_line(tape: &[u8], run: Run, out: &mut [u8; ROOM], at: usize) -> Line
         more: true,
         next: behind,
         run,
-    }
-}
-
-// What stops a run.
-fn halt_of(read: RecordRead, place: usize) -> Halt
-    ensures { λ r. ⌜ r ≡ haltOf place read ⌝ }
-{
-    match read {
-        RecordRead::Record { .. } => Halt::AtEnd,
-        RecordRead::End => Halt::AtEnd,
-        RecordRead::Refused(number) => Halt::AtRefusal { number, place },
     }
 }
 

@@ -2,7 +2,6 @@
 use borrow.Author.Needs.{needs}
 use mathlib.Core.Path.{_≡_, ap, sym, _∙_}
 use Prim.Native.Nat.{_+_, _-_}
-use native.Mathlib.Omega.{arith}
 use lib.ListN.{drop, getD}
 use Rattle.rules.specs.Words.{only}
 use Rattle.jobs.specs.Listed.{isOf, leadOf, view, blankJob}

@@ -26,8 +26,8 @@ run-out-requires c κs = c .before .before .«open» .ensures .1 (c .enum-told .
 lines-requires : tie.Need-lines-requires
 lines-requires c κs = search needs
 
-halted-requires : tie.Need-halted-requires
-halted-requires c κs = search needs
+halt-line-requires : tie.Need-halt-line-requires
+halt-line-requires c κs = search needs
 
 returns-2 : tie.Need-returns-2
 returns-2 c =
@@ -36,7 +36,7 @@ returns-2 c =
     let k = e .before .before in
     as-text
     (accepted-text (now (k .before .before .args .tape)) (k .«open» .result) (k .«open» .ensures .0) (e .enum-told .given .1) (r .run-out .result) (r .run-out .ensures .0))
-    (then (c .before .before .lines .ensures) (c .halted .ensures))
+    (then (c .before .before .lines .ensures) (c .halt-line .ensures))
 
 pub text-spec : {M : Type 1} → statement M
 text-spec =
@@ -48,5 +48,5 @@ text-spec =
     returns
     run-out-requires
     lines-requires
-    halted-requires
+    halt-line-requires
     returns-2)

@@ -1,10 +1,10 @@
--- `reasons::halted` meets its contract. Assumes nothing.
+-- `transcript::halt_line` meets its contract. Assumes nothing.
 use mathlib.Core.Path.{sym, ap}
 use Rattle.print.proofs.Texts.{as-text, none-put}
-use Rattle.reasons.specs.Words.{haltText}
+use Rattle.transcript.specs.Pieces.{haltText}
 use borrow.Author.Needs.{needs}
-use Rattle.reasons.proofs.halted.Statement.{statement}
-use Rattle.reasons.proofs.halted.Tie as tie
+use Rattle.transcript.proofs.halt_line.Statement.{statement}
+use Rattle.transcript.proofs.halt_line.Tie as tie
 
 enum-told : tie.Need-enum-told
 enum-told c = search needs
@@ -21,5 +21,5 @@ returns c = as-text (sym (ap haltText (c .enum-told .given .1))) (none-put _ _)
 returns-2 : tie.Need-returns-2
 returns-2 c = as-text (sym (ap haltText (c .before .before .before .halt .given .1))) (c .tape-line .ensures)
 
-pub halted-spec : {M : Type 1} → statement M
-halted-spec = tie.close (tie.spec enum-told enum-known-halt tape-line-requires returns returns-2)
+pub halt-line-spec : {M : Type 1} → statement M
+halt-line-spec = tie.close (tie.spec enum-told enum-known-halt tape-line-requires returns returns-2)
