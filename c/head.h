@@ -89,7 +89,7 @@ struct HeadState {
     struct HeadMonitor monitor;
 };
 
-/* Newly late jobs: their count, and their tasks in list order; unused places are 0. */
+/* Newly late jobs: their count, and their tasks in list order; unused places are 0. A job is late from its deadline tick on. */
 struct HeadLate {
     uint8_t count;
     uint8_t tasks[HEAD_PLACES];

@@ -63,7 +63,7 @@ static void refuse(const struct sched *s, uint8_t number, struct answer *a) {
 static void move(struct sched *s, uint64_t at, struct answer *a) {
     size_t i = s->reported, count = s->count, n = 0;
     s->last = at;
-    for (; i < count && s->jobs[i].due < at; i++) {
+    for (; i < count && s->jobs[i].due <= at; i++) {
         uint8_t task = s->jobs[i].task;
         s->tasks[task].late = plus_one(s->tasks[task].late);
         a->late_tasks[n++] = task;

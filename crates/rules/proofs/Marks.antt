@@ -8,7 +8,7 @@ use Rattle.rules.specs.declared.Phase.the-variants.{Delayed}
 use Rattle.rules.specs.declared.Call.{Call}
 use Rattle.rules.specs.declared.Call.the-variants.{Wait, Activate, Terminate, Chain}
 use Rattle.rules.specs.Words.{unless, only, All}
-use Rattle.rules.specs.Table.{Table}
+use Rattle.rules.specs.Table.{Table, Passes}
 use Rattle.rules.specs.Jobs.{Job, Pending, accepted, newJob, before}
 use Rattle.rules.specs.Calls.{tickOf}
 use Rattle.rules.specs.Late.{isPast, isLate, newlyLate, markedAt, fallsLate}
@@ -27,29 +27,29 @@ pub record Marked (now : Tick) (j : Job) : Type 0 where
 marked-later : (s t : Tick) → s .0 ≤ t .0 → (j : Job) → Marked s j → Marked t (markedAt t j)
 marked-later s t h j k = record { mark = ap (λ z. z || isPast t (j .due)) (k .mark) ∙ stays-past s t (j .due) h }
 
-marked-new : (T : Table) → (e : Call) → Known T e → All (λ (j : Pending). Marked (tickOf e) (newJob Delayed j)) (makes (accepted T) e)
-marked-new T (Wait t) k = tt
-marked-new T (Activate t n) k = (record { mark = not-past-yet T t n }, tt)
-marked-new T (Terminate t) k = tt
-marked-new T (Chain t n) k = (record { mark = not-past-yet T t n }, tt)
+marked-new : (T : Table) → Passes T → (e : Call) → Known T e → All (λ (j : Pending). Marked (tickOf e) (newJob Delayed j)) (makes (accepted T) e)
+marked-new T p (Wait t) k = tt
+marked-new T p (Activate t n) k = (record { mark = not-past-yet T p t n k }, tt)
+marked-new T p (Terminate t) k = tt
+marked-new T p (Chain t n) k = (record { mark = not-past-yet T p t n k }, tt)
 
-pub next-marked : (T : Table) → (b : Board) (e : Call) → All (Marked (b .last)) (b .jobs) → All (Marked ((next T b e) .last)) ((next T b e) .jobs)
-next-marked T b e h = go (result T b e) refl
+pub next-marked : (T : Table) → Passes T → (b : Board) (e : Call) → All (Marked (b .last)) (b .jobs) → All (Marked ((next T b e) .last)) ((next T b e) .jobs)
+next-marked T p b e h = go (result T b e) refl
   where
     go : (k : ℕ) → result T b e ≡ k → All (Marked ((unless k b (done T (marked (tickOf e) b) e)) .last)) ((unless k b (done T (marked (tickOf e) b) e)) .jobs)
     go zero z =
         let a = allowed T (viewed T b) e z in
         moved-all (Marked (tickOf e)) (λ j k. record { mark = k .mark }) (before T) (accepted T) (running T b) (map (markedAt (tickOf e)) (b .jobs)) e
-        (marked-new T e (known-of T (viewed T b) e a))
+        (marked-new T p e (known-of T (viewed T b) e a))
         (all-over (Marked (b .last)) (Marked (tickOf e)) (markedAt (tickOf e)) (marked-later (b .last) (tickOf e) (time-of T (viewed T b) e a)) (b .jobs) h)
     go (suc k) z = h
 
-run-marked : (T : Table) → (b : Board) → All (Marked (b .last)) (b .jobs) → (es : List Call) → All (Marked ((run T b es) .last)) ((run T b es) .jobs)
-run-marked T b h [] = h
-run-marked T b h (e ∷ es) = run-marked T (next T b e) (next-marked T b e h) es
+run-marked : (T : Table) → Passes T → (b : Board) → All (Marked (b .last)) (b .jobs) → (es : List Call) → All (Marked ((run T b es) .last)) ((run T b es) .jobs)
+run-marked T p b h [] = h
+run-marked T p b h (e ∷ es) = run-marked T p (next T b e) (next-marked T p b e h) es
 
-pub fresh-marked : (T : Table) → (calls : List Call) → All (Marked ((run T fresh calls) .last)) ((run T fresh calls) .jobs)
-fresh-marked T calls = run-marked T fresh tt calls
+pub fresh-marked : (T : Table) → Passes T → (calls : List Call) → All (Marked ((run T fresh calls) .last)) ((run T fresh calls) .jobs)
+fresh-marked T p calls = run-marked T p fresh tt calls
 
 only-alike : (f g : Job → Bool) (l : List Job) → All (λ (j : Job). f j ≡ g j) l → only f l ≡ only g l
 only-alike f g [] h = refl
@@ -63,4 +63,4 @@ late-unmarked s t l h = only-alike (λ (j : Job). isLate t j && not (j .reported
     each (j ∷ l) h = (ap (λ z. isLate t j && not z) (h .0 .mark) ∙ falls-late s t (j .due), each l (h .1))
 
 pub late-needs-no-mark : LateNeedsNoMark
-late-needs-no-mark T calls t = late-unmarked ((run T fresh calls) .last) t ((run T fresh calls) .jobs) (fresh-marked T calls)
+late-needs-no-mark T p calls t = late-unmarked ((run T fresh calls) .last) t ((run T fresh calls) .jobs) (fresh-marked T p calls)

@@ -46,7 +46,7 @@ module _ (T : Table) (h : Head) (r : Reached T h) where
   reached-good = subst⁻¹ (Good T (Higher T)) reached-board (fresh-good T (Higher T) (ranks T reached-keeps) (r .calls))
 
   pub reached-marked : All (Marked (h .board .last)) (h .board .jobs)
-  reached-marked = subst⁻¹ (λ (z : Board). All (Marked (z .last)) (z .jobs)) reached-board (fresh-marked T (r .calls))
+  reached-marked = subst⁻¹ (λ (z : Board). All (Marked (z .last)) (z .jobs)) reached-board (fresh-marked T (reached-keeps .passes) (r .calls))
 
   -- the list has room
   pub reached-room : length (h .board .jobs) ≤ 32

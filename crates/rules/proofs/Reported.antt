@@ -4,7 +4,6 @@ use mathlib.Core.Path.{_≡_, refl, ap, _∙_}
 use mathlib.Core.Bool.{Bool, true, false, cond, not, _&&_, _||_}
 use mathlib.Core.List.{List, [], _∷_, map}
 use mathlib.Core.Option.{Option, some, none}
-use lib.Dec.{ltb}
 use native.Mathlib.Omega.{arith}
 use Rattle.rules.specs.declared.Tick.{Tick}
 use Rattle.rules.specs.declared.Phase.the-variants.{Delayed}
@@ -36,7 +35,7 @@ all-ending Q T b (Terminate t) h = all-found Q (running T b) (b .jobs) h
 all-ending Q T b (Chain t n) h = all-found Q (running T b) (b .jobs) h
 
 module _ (test : Pending → Bool) where
-  -- a job with its mark, and an ended job whose ending call was past its deadline
+  -- a job with its mark, and an ended job that was late at its ending call
   abbrev with-mark : Job → Bool
   with-mark j = j .reported && test (bare j)
 
@@ -66,7 +65,7 @@ module _ (test : Pending → Bool) where
   makes-count [] = refl
   makes-count (j ∷ p) = makes-count p
 
-  -- the job that ends has its mark exactly if its ending call is past its deadline
+  -- the job that ends has its mark exactly if it is late at its ending call
   ends-count : (s t : Tick) → s .0 ≤ t .0 → (o : Option Job) → All (Marked s) (found o)
       → countBy with-mark (map (markedAt t) (found o)) ≡ countBy ended-late (endedAt t o)
   ends-count s t h none m = refl
@@ -95,24 +94,23 @@ module _ (test : Pending → Bool) where
       go (suc k) z = refl
 
 pub late-once : LateOnce
-unfolding isPast
-late-once T calls test =
+late-once T p calls test =
     let b = run T fresh calls in
     omega (
       arith,
-      balance T (λ (b : Board). All (Marked (b .last)) (b .jobs)) (λ b m e. next-marked T b e m) (reportedBy T) test (endedBy T) (ended-late test) (λ (b : Board). countBy (with-mark test) (b .jobs)) (next-count test T) fresh tt calls,
-      count-alike (with-mark test) (λ (j : Job). isPast (b .last) (j .due) && test (bare j)) (b .jobs) (all-map (λ j m. ap (λ z. z && test (bare j)) (m .mark)) (b .jobs) (fresh-marked T calls)),
+      balance T (λ (b : Board). All (Marked (b .last)) (b .jobs)) (λ b m e. next-marked T p b e m) (reportedBy T) test (endedBy T) (ended-late test) (λ (b : Board). countBy (with-mark test) (b .jobs)) (next-count test T) fresh tt calls,
+      count-alike (with-mark test) (λ (j : Job). isPast (b .last) (j .due) && test (bare j)) (b .jobs) (all-map (λ j m. ap (λ z. z && test (bare j)) (m .mark)) (b .jobs) (fresh-marked T p calls)),
     )
 
 -- a reported job was accepted, since it ended or is pending
 pub reported-once : ReportedOnce
-reported-once T calls test =
+reported-once T p calls test =
     let b = run T fresh calls in
     omega (
       arith,
-      late-once T calls test,
+      late-once T p calls test,
       nothing-vanishes T calls test,
-      count-both (λ (x : Ended). test (x .job)) (λ (x : Ended). ltb (x .job .due .0) (x .tick .0)) (endings T calls),
-      count-both (λ (j : Job). test (bare j)) (λ (j : Job). ltb (j .due .0) (b .last .0)) (b .jobs),
+      count-both (λ (x : Ended). test (x .job)) (λ (x : Ended). isPast (x .tick) (x .job .due)) (endings T calls),
+      count-both (λ (j : Job). test (bare j)) (λ (j : Job). isPast (b .last) (j .due)) (b .jobs),
       count-map test bare (b .jobs),
     )

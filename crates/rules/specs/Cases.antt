@@ -191,10 +191,19 @@ pub record Cases : Type 0 where
   pub i-goes-back : result tableP (run tableP fresh (Wait (at 5) ∷ [])) (Terminate (at 4)) ≡ 8
   pub i-plain : plainResult tableP (plainRun tableP start (Wait (at 5) ∷ [])) (Terminate (at 4)) ≡ 8
   pub i-changes-nothing : run tableP fresh (Wait (at 5) ∷ Terminate (at 4) ∷ []) ≡ run tableP fresh (Wait (at 5) ∷ [])
-  pub j-on-time : answer tableP (run tableP fresh (Activate (at 3) 0 ∷ [])) (Terminate (at 6)) ≡ says 0 Idle TerminateTask []
-  pub j-late : answer tableP (run tableP fresh (Activate (at 3) 0 ∷ [])) (Terminate (at 7)) ≡ says 0 Idle TerminateTask (0 ∷ [])
-  pub j-on-time-counts : take 1 ((headRun tableP freshHead (Activate (at 3) 0 ∷ Terminate (at 6) ∷ [])) .tallies) ≡ tally 0 1 3 ∷ []
-  pub j-late-counts : take 1 ((headRun tableP freshHead (Activate (at 3) 0 ∷ Terminate (at 7) ∷ [])) .tallies) ≡ tally 1 1 4 ∷ []
+  pub j-on-time : answer tableP (run tableP fresh (Activate (at 3) 0 ∷ [])) (Terminate (at 5)) ≡ says 0 Idle TerminateTask []
+  pub j-late : answer tableP (run tableP fresh (Activate (at 3) 0 ∷ [])) (Terminate (at 6)) ≡ says 0 Idle TerminateTask (0 ∷ [])
+  pub j-on-time-counts : take 1 ((headRun tableP freshHead (Activate (at 3) 0 ∷ Terminate (at 5) ∷ [])) .tallies) ≡ tally 0 1 2 ∷ []
+  pub j-late-counts : take 1 ((headRun tableP freshHead (Activate (at 3) 0 ∷ Terminate (at 6) ∷ [])) .tallies) ≡ tally 1 1 3 ∷ []
+  pub j-reported-once :
+      answers tableP fresh (Activate (at 3) 0 ∷ Wait (at 5) ∷ Wait (at 6) ∷ Wait (at 6) ∷ Wait (at 7) ∷ [])
+      ≡ says 0 (Runs 0 (at 6)) (ActivateTask 0) []
+      ∷ says 0 (Runs 0 (at 6)) NoCall []
+      ∷ says 0 (Runs 0 (at 6)) NoCall (0 ∷ [])
+      ∷ says 0 (Runs 0 (at 6)) NoCall []
+      ∷ says 0 (Runs 0 (at 6)) NoCall []
+      ∷ []
+  pub j-first-call-after : answer tableP (run tableP fresh (Activate (at 3) 0 ∷ Wait (at 5) ∷ [])) (Wait (at 7)) ≡ says 0 (Runs 0 (at 6)) NoCall (0 ∷ [])
   pub k-not-shortest : numberAt (0x80 ∷ 0x00 ∷ []) 0 ≡ Refused 21
   pub k-cut-off : numberAt (0x80 ∷ []) 0 ≡ Refused 20
   pub l-fits : check (table (line 3 2 16 ∷ line 5 1 16 ∷ [])) ≡ verdict 0 NoneNamed

@@ -25,7 +25,7 @@ use Rattle.rules.specs.Table.{Table, size, lineOf, deadlineOf, priorityO
 use Rattle.rules.specs.Jobs.{Job, Pending, bare, Before}
 use Rattle.rules.specs.Kernel.{dispatched, dequeued, kernel}
 use Rattle.rules.specs.Calls.{View}
-use Rattle.rules.specs.Late.{newlyLate, fallsLate}
+use Rattle.rules.specs.Late.{isPast, isLate, newlyLate, fallsLate}
 use Rattle.rules.specs.Layer.{Board, isReleased, without, tasks, running, runningJob, fresh, next, result, choice, answer, inPlaces}
 use Rattle.rules.specs.Counts.{noTally}
 use Rattle.rules.specs.Plain.{Plain, start, plainRun, plainNext, plainChoice, plainRuns, plainTasks, plainOthers, plainResult}
@@ -386,24 +386,24 @@ ApartPriorities =
 
 -- ==== late jobs and counts
 
--- every late job is reported once and no other: of the jobs that pass any test, as many were reported as ended past their deadline, and are pending with a deadline that the last accepted call was past
+-- every late job is reported once and no other, on a table that passes checks 1 to 4: of the jobs that pass any test, as many were reported as were late at the call that ended them, and are pending and were late at the last accepted call
 abbrev pub LateOnce : Type 0
 LateOnce =
-    (T : Table) (calls : List Call) (test : Pending → Bool)
+    (T : Table) → Passes T → (calls : List Call) (test : Pending → Bool)
     → countBy test (reports T calls)
-    ≡ countBy (λ (x : Ended). ltb (x .job .due .0) (x .tick .0) && test (x .job)) (endings T calls)
-    + countBy (λ (j : Job). ltb (j .due .0) ((run T fresh calls) .last .0) && test (bare j)) ((run T fresh calls) .jobs)
+    ≡ countBy (λ (x : Ended). isPast (x .tick) (x .job .due) && test (x .job)) (endings T calls)
+    + countBy (λ (j : Job). isLate ((run T fresh calls) .last) j && test (bare j)) ((run T fresh calls) .jobs)
 
 -- so each accepted job is reported at most once
 abbrev pub ReportedOnce : Type 0
 ReportedOnce =
-    (T : Table) (calls : List Call) (test : Pending → Bool)
+    (T : Table) → Passes T → (calls : List Call) (test : Pending → Bool)
     → countBy test (reports T calls) ≤ countBy test (acceptances T calls)
 
--- at the first such call: newly late are those whose deadline this call is past and the last accepted one was not. So no mark need be kept
+-- at the first such call: newly late are those whose deadline this call's tick is at or above and the last accepted one's was not. So no mark need be kept
 abbrev pub LateNeedsNoMark : Type 0
 LateNeedsNoMark =
-    (T : Table) (calls : List Call) (t : Tick)
+    (T : Table) → Passes T → (calls : List Call) (t : Tick)
     → newlyLate t ((run T fresh calls) .jobs) ≡ only (fallsLate ((run T fresh calls) .last) t) ((run T fresh calls) .jobs)
 
 -- count and task numbers of the jobs l, in 32 places, unused places 0

@@ -48,7 +48,7 @@ pub fn bad_tick(last: Tick, at: Tick) -> bool
 pub fn is_past(at: Tick, due: Tick) -> bool
     ensures { λ r. ⌜ r ≡ isPast at due ⌝ }
 {
-    due.0 < at.0
+    due.0 <= at.0
 }
 
 // The response of a job that ends at a tick: its relative deadline, and how long after its deadline it ends (or less how long before it).
