@@ -1,4 +1,4 @@
--- Document 01, "The program and one whole run" and "Errors a builder could fall into": the printed run, cases a to l, and other single rows, as one statement; and those of Q-1. Assumes nothing.
+-- Document 01, "The program and one whole run" and "Errors a builder could fall into": the printed run, cases a to l (j as Q-2 has it), and other single rows, as one statement; and those of Q-1. Assumes nothing.
 use Prim.Native.Nat.{ℕ, _+_, _*_, _/_}
 use Prim.Native.String.{String}
 use mathlib.Core.Path.{_≡_}

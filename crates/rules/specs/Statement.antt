@@ -6,7 +6,7 @@ use mathlib.Core.Bool.{Bool, _&&_}
 use mathlib.Core.List.{List, [], _∷_, _++_, map}
 use mathlib.Core.Option.{Option, some, none}
 use lib.ListN.{length, getD}
-use lib.Dec.{eqb, ltb}
+use lib.Dec.{eqb}
 use Rattle.rules.specs.declared.Tick.{Tick}
 use Rattle.rules.specs.declared.Phase.{Phase}
 use Rattle.rules.specs.declared.Phase.the-variants.{Delayed, Released}

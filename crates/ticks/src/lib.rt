@@ -44,7 +44,7 @@ pub fn bad_tick(last: Tick, at: Tick) -> bool
     GREATEST < at.0
 }
 
-// Whether a pending job with this deadline is late at a call at this tick.
+// Whether a pending job with this deadline is late at a call at this tick: one at or above the deadline.
 pub fn is_past(at: Tick, due: Tick) -> bool
     ensures { λ r. ⌜ r ≡ isPast at due ⌝ }
 {

@@ -1,4 +1,4 @@
-//! Tapes at the borders of document 01 and Q-1, a fixed list that is run first, whatever the seed.
+//! Tapes at the borders of document 01, Q-1 and Q-2, a fixed list that is run first, whatever the seed.
 
 use crate::layer::{Call, GREATEST};
 use crate::number::write;
@@ -52,6 +52,7 @@ pub fn edges() -> Vec<Vec<u8>> {
     all.extend(lengths());
     all.extend(boards());
     all.extend(ends());
+    all.extend(deadlines());
     all
 }
 
@@ -93,8 +94,13 @@ fn cases() -> Vec<Vec<u8>> {
                 (0, Chain(0)),
             ],
         ),
+        tape(&j, &[(0, Activate(0)), (5, Terminate)]),
         tape(&j, &[(0, Activate(0)), (6, Terminate)]),
         tape(&j, &[(0, Activate(0)), (7, Terminate)]),
+        tape(
+            &j,
+            &[(0, Activate(0)), (6, Tick), (0, Tick), (0, Terminate)],
+        ),
         tape(
             &j,
             &[(0, Activate(0)), (7, Tick), (0, Tick), (0, Terminate)],
@@ -486,6 +492,60 @@ fn ends() -> Vec<Vec<u8>> {
         }
         for last in bad {
             all.push(joined(&[&tape(&lines, board), last]));
+        }
+    }
+    all
+}
+
+// calls of each kind at the deadlines less one, the deadlines, and the deadlines plus one of the
+// running job and of others; then again on the same tick, and later
+fn deadlines() -> Vec<Vec<u8>> {
+    use Call::{Activate, Chain, Terminate, Tick};
+    let lines = [
+        line(3, 12, 2),
+        line(5, 11, 2),
+        line(5, 10, 2),
+        line(1, 13, 1),
+    ];
+    let boards: [&[(u64, Call)]; 9] = [
+        // a job alone, also of D = 1
+        &[(0, Activate(1))],
+        &[(0, Activate(3))],
+        // two deadlines
+        &[(0, Activate(1)), (0, Activate(0))],
+        // D = 1 before a longer one, and due with it
+        &[(0, Activate(1)), (1, Activate(3))],
+        &[(0, Activate(1)), (4, Activate(3))],
+        // three due together behind an earlier one
+        &[
+            (0, Activate(0)),
+            (0, Activate(2)),
+            (0, Activate(1)),
+            (2, Activate(0)),
+        ],
+        // due at the greatest tick, the last also before it
+        &[(GREATEST - 1, Activate(3))],
+        &[(GREATEST - 5, Activate(1)), (2, Activate(0))],
+        &[(GREATEST - 5, Activate(1)), (1, Activate(0))],
+    ];
+    // some are refused, and report nothing
+    let calls = [
+        Tick,
+        Activate(0),
+        Activate(3),
+        Activate(4),
+        Terminate,
+        Chain(0),
+        Chain(3),
+    ];
+    let mut all = Vec::new();
+    for board in boards {
+        // all are due in 5 ticks at most
+        for ticks in 0..=6 {
+            for call in calls {
+                let again = [(ticks, call), (0, Tick), (0, call), (1, Tick), (1, Tick)];
+                all.push(tape(&lines, &[board, &again].concat()));
+            }
         }
     }
     all

@@ -1,4 +1,4 @@
-//! Document 01, "What a call returns": late jobs and counts, found afterwards from all jobs of a run.
+//! Document 01, "What a call returns", and document 02, Q-2: late jobs and counts, found afterwards from all jobs of a run.
 
 use crate::layer::Counts;
 
@@ -69,10 +69,11 @@ impl History {
         for job in &mut self.jobs {
             // pending at the start of the calls after its making, its ending one too
             let last = job.ended.unwrap_or(self.ticks.len() - 1);
-            let first_past = self.ticks.partition_point(|tick| *tick <= job.due);
-            if first_past <= last {
-                debug_assert!(first_past > job.begun);
-                job.seen_late = Some(first_past);
+            // the calls before it are below the deadline
+            let first_late = self.ticks.partition_point(|tick| *tick < job.due);
+            if first_late <= last {
+                debug_assert!(first_late > job.begun);
+                job.seen_late = Some(first_late);
             }
         }
         // in list order: by deadline, then by acceptance
@@ -87,6 +88,12 @@ impl History {
         }
         let counts = self.of_task.iter().map(|jobs| self.count(jobs)).collect();
         (late, counts)
+    }
+
+    /// The deadline of each job that was judged late, and the tick of the call that first saw it.
+    pub fn reports(&self) -> impl Iterator<Item = (u64, u64)> + '_ {
+        let jobs = self.jobs.iter();
+        jobs.filter_map(move |job| Some((job.due, self.ticks[job.seen_late?])))
     }
 
     fn count(&self, jobs: &[usize]) -> Counts {

@@ -1,4 +1,4 @@
-//! Document 01, "Ticks and jobs" and "What a call returns": the scheduler layer.
+//! Document 01, "Ticks and jobs" and "What a call returns", and document 02, Q-2: the scheduler layer.
 
 use crate::table::{Line, MOST};
 
@@ -143,11 +143,11 @@ impl Layer {
         0
     }
 
-    // late: pending at the start of a call whose tick is greater than the deadline; reported once
+    // late: pending at the start of a call whose tick is at or above the deadline; reported once
     fn report(&mut self, tick: u64) -> Vec<u8> {
         let mut late = Vec::new();
         for job in &mut self.list {
-            if tick > job.due && !job.reported {
+            if tick >= job.due && !job.reported {
                 job.reported = true;
                 late.push(job.task);
                 let counts = &mut self.counts[usize::from(job.task)];

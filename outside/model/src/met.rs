@@ -1,7 +1,7 @@
 //! What a run met of document 01's cases; no section of its own.
 
 use crate::kernel::Kernel;
-use crate::layer::{Answer, Call, KernelCall, Layer};
+use crate::layer::{Answer, Call, KernelCall, Layer, GREATEST};
 use crate::tape::kind;
 use crate::why::Reason;
 use std::fmt;
@@ -19,6 +19,10 @@ pub struct Met {
     /// A, C, T, none
     pub kernel_calls: [u64; 4],
     pub late: u64,
+    /// late jobs by the tick of their report: the deadline, a later one
+    pub reports: [u64; 2],
+    /// late jobs that are due at the greatest tick
+    pub late_at_greatest: u64,
     pub most_late: u64,
     pub deepest: u64,
     pub fullest: u64,
@@ -55,6 +59,12 @@ impl Met {
         }
     }
 
+    /// The report of a late job.
+    pub fn report(&mut self, due: u64, tick: u64) {
+        self.reports[usize::from(tick > due)] += 1;
+        self.late_at_greatest += u64::from(due == GREATEST);
+    }
+
     /// Why a task waits at a tape's end.
     pub fn reason(&mut self, reason: Reason) {
         self.reasons[match reason {
@@ -77,9 +87,11 @@ impl Met {
         add_each(&mut self.tape_refusals, &other.tape_refusals);
         add_each(&mut self.table_refusals, &other.table_refusals);
         add_each(&mut self.kernel_calls, &other.kernel_calls);
+        add_each(&mut self.reports, &other.reports);
         add_each(&mut self.same_due, &other.same_due);
         add_each(&mut self.reasons, &other.reasons);
         self.late += other.late;
+        self.late_at_greatest += other.late_at_greatest;
         self.most_late = self.most_late.max(other.most_late);
         self.deepest = self.deepest.max(other.deepest);
         self.fullest = self.fullest.max(other.fullest);
@@ -131,8 +143,12 @@ impl fmt::Display for Met {
         let [a, c, t, none] = self.kernel_calls;
         let kernel_calls = [("A", a), ("C", c), ("T", t), ("none", none)];
         row(f, "kernel calls", &kernel_calls)?;
+        let [on_deadline, later] = self.reports;
         let late = [
             ("reported", self.late),
+            ("on the deadline tick", on_deadline),
+            ("later", later),
+            ("due at the greatest tick", self.late_at_greatest),
             ("most in one call", self.most_late),
         ];
         row(f, "late jobs", &late)?;

@@ -41,6 +41,9 @@ fn print(bytes: &[u8], met: &mut Met) -> Result<[String; 2], String> {
     let mut heads = Heads::fresh(&lines);
     let (calls, bad_record) = call_all(bytes, place, &mut heads, met)?;
     heads.same_in_the_end()?;
+    for (due, tick) in heads.history.reports() {
+        met.report(due, tick);
+    }
     let mut whys = String::new();
     for (task, reason) in heads.reasons()?.into_iter().enumerate() {
         met.reason(reason);

@@ -1,4 +1,4 @@
-//! Document 01: the printed run, and cases a to l of "Errors a builder could fall into".
+//! Document 01: the printed run, and cases a to l of "Errors a builder could fall into", case j as Q-2 of document 02 has it.
 
 use model::edges::{P, RUN};
 use model::kernel::Kernel;
@@ -164,10 +164,10 @@ fn case_i() {
 
 #[test]
 fn case_j() {
-    let on_time = printed(&[1, 6, 1, 1, 1, 0, 0, 2, 6]);
-    assert_eq!(on_time.lines().last(), Some("6 0 - - T -"));
-    let late = printed(&[1, 6, 1, 1, 1, 0, 0, 2, 7]);
-    assert_eq!(late.lines().last(), Some("7 0 - - T 0"));
+    let on_time = printed(&[1, 6, 1, 1, 1, 0, 0, 2, 5]);
+    assert_eq!(on_time.lines().last(), Some("5 0 - - T -"));
+    let late = printed(&[1, 6, 1, 1, 1, 0, 0, 2, 6]);
+    assert_eq!(late.lines().last(), Some("6 0 - - T 0"));
 }
 
 #[test]

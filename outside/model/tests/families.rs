@@ -11,6 +11,7 @@ fn met(family: Family, tapes: u64) -> Met {
         let tape = draw(family, &mut Random::of(7, index));
         met.add(&run(&tape).expect("all agree").met);
     }
+    assert_eq!(met.reports.iter().sum::<u64>(), met.late);
     met
 }
 
@@ -30,7 +31,7 @@ fn mixed() {
     for result in [2, 3, 4] {
         assert!(met.results[result] > 300);
     }
-    assert!(met.late > 1_000 && met.most_late > 10);
+    assert!(met.reports.iter().all(|count| *count > 500) && met.most_late > 10);
     assert!(met.same_due[0] > 1_000 && met.same_due[1] > 500);
     assert!(met.deepest > 3);
 }
@@ -74,7 +75,7 @@ fn nest() {
 fn far() {
     let met = met(Family::Far, 200);
     assert!(met.results[9] > 200 && met.tape_refusals[23] > 20);
-    assert!(met.late > 50);
+    assert!(met.reports.iter().all(|count| *count > 50) && met.late_at_greatest > 10);
 }
 
 #[test]
@@ -91,7 +92,7 @@ fn ends_with_jobs_pending() {
     for number in 20..24 {
         assert!(met.tape_refusals[number] > 3);
     }
-    assert!(met.fullest == 32 && met.late > 400);
+    assert!(met.fullest == 32 && met.reports.iter().all(|count| *count > 300));
 }
 
 #[test]
@@ -158,6 +159,7 @@ fn edges() {
         assert!(met.results[result] > 5);
     }
     assert!(met.reasons.iter().all(|count| *count > 300));
+    assert!(met.reports.iter().all(|count| *count > 200) && met.late_at_greatest > 50);
 }
 
 #[test]

@@ -19,7 +19,7 @@ pub fn ends(random: &mut Random) -> Vec<u8> {
         end_down_to(1, ended, &mut tape);
     }
     if random.one_in(3) {
-        past_a_deadline(&mut tape, random);
+        around_a_deadline(&mut tape, random);
     }
     match random.below(8) {
         0 => refused_call(&mut tape, random),
@@ -94,13 +94,13 @@ fn pile(tape: &mut Drawn, random: &mut Random) {
     }
 }
 
-fn past_a_deadline(tape: &mut Drawn, random: &mut Random) {
+fn around_a_deadline(tape: &mut Drawn, random: &mut Random) {
     let jobs = tape.plain.jobs();
     if jobs.is_empty() {
         return;
     }
     let due = jobs[random.place(jobs.len())].due;
-    let ticks = (due + random.below(3)).saturating_sub(tape.tick);
+    let ticks = tape.around(due, random);
     tape.put(ticks, Call::Tick);
 }
 

@@ -77,11 +77,11 @@ impl Drawn {
             }
             6 | 7 if !jobs.is_empty() => {
                 let due = self.plain.running().map_or(0, |job| job.due);
-                (due + random.below(3)).saturating_sub(self.tick + 1)
+                self.around(due, random)
             }
             8 if !jobs.is_empty() => {
                 let due = jobs[random.place(jobs.len())].due;
-                (due + random.below(2)).saturating_sub(self.tick)
+                self.around(due, random)
             }
             9 => random.from_to(0, 40),
             _ => 0,
@@ -92,6 +92,11 @@ impl Drawn {
         } else {
             ticks.min(GREATEST.saturating_sub(self.tick))
         }
+    }
+
+    // to a deadline less one, the deadline, or the deadline plus one; none where that is gone by
+    pub fn around(&self, due: u64, random: &mut Random) -> u64 {
+        (due + random.below(3)).saturating_sub(self.tick + 1)
     }
 
     pub fn task(&self, strange: u64, random: &mut Random) -> u8 {
