@@ -386,7 +386,7 @@ ApartPriorities =
 
 -- ==== late jobs and counts
 
--- every late job is reported once and no other, on a table that passes checks 1 to 4: of the jobs that pass any test, as many were reported as were late at the call that ended them, and are pending and were late at the last accepted call
+-- every late job is reported once and no other, on a table that passes checks 1 to 4: of the jobs that pass any test, as many were reported as ended late and are pending late: by the ending call's tick, and by the last accepted call's
 abbrev pub LateOnce : Type 0
 LateOnce =
     (T : Table) → Passes T → (calls : List Call) (test : Pending → Bool)
@@ -400,7 +400,7 @@ ReportedOnce =
     (T : Table) → Passes T → (calls : List Call) (test : Pending → Bool)
     → countBy test (reports T calls) ≤ countBy test (acceptances T calls)
 
--- at the first such call: newly late are those whose deadline this call's tick is at or above and the last accepted one's was not. So no mark need be kept
+-- at the first such call: newly late are those whose deadline is above the last accepted call's tick and not above this one's. So no mark need be kept
 abbrev pub LateNeedsNoMark : Type 0
 LateNeedsNoMark =
     (T : Table) → Passes T → (calls : List Call) (t : Tick)
