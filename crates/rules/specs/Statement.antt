@@ -394,10 +394,10 @@ LateOnce =
     ≡ countBy (λ (x : Ended). isPast (x .tick) (x .job .due) && test (x .job)) (endings T calls)
     + countBy (λ (j : Job). isLate ((run T fresh calls) .last) j && test (bare j)) ((run T fresh calls) .jobs)
 
--- so each accepted job is reported at most once
+-- each accepted job is reported at most once, on any table
 abbrev pub ReportedOnce : Type 0
 ReportedOnce =
-    (T : Table) → Passes T → (calls : List Call) (test : Pending → Bool)
+    (T : Table) (calls : List Call) (test : Pending → Bool)
     → countBy test (reports T calls) ≤ countBy test (acceptances T calls)
 
 -- at the first such call: newly late are those whose deadline is above the last accepted call's tick and not above this one's. So no mark need be kept

@@ -36,6 +36,11 @@ fn line(d: u64, priority: u8, limit: u8) -> Line {
     Line { d, priority, limit }
 }
 
+// the lines of table P and a fourth
+fn p_and(fourth: Line) -> [Line; 4] {
+    [line(3, 12, 2), line(5, 11, 2), line(5, 10, 2), fourth]
+}
+
 fn joined(parts: &[&[u8]]) -> Vec<u8> {
     parts.concat()
 }
@@ -430,12 +435,7 @@ fn filled(lines: &[Line], ticks: u64) -> Vec<Vec<u8>> {
 // boards of P with a fourth line, and what may come last
 fn ends() -> Vec<Vec<u8>> {
     use Call::{Activate, Chain, Terminate, Tick};
-    let lines = [
-        line(3, 12, 2),
-        line(5, 11, 2),
-        line(5, 10, 2),
-        line(8, 9, 1),
-    ];
+    let lines = p_and(line(8, 9, 1));
     let boards: [&[(u64, Call)]; 10] = [
         // all four reasons
         &[(0, Activate(2)), (0, Activate(1)), (3, Activate(0))],
@@ -501,12 +501,7 @@ fn ends() -> Vec<Vec<u8>> {
 // running job and of others; then again on the same tick, and later
 fn deadlines() -> Vec<Vec<u8>> {
     use Call::{Activate, Chain, Terminate, Tick};
-    let lines = [
-        line(3, 12, 2),
-        line(5, 11, 2),
-        line(5, 10, 2),
-        line(1, 13, 1),
-    ];
+    let lines = p_and(line(1, 13, 1));
     let boards: [&[(u64, Call)]; 9] = [
         // a job alone, also of D = 1
         &[(0, Activate(1))],
