@@ -1,6 +1,7 @@
 /* What outside/cost counts. Runs under count/icount.c:
  *
  *   cost                  goes through all that is measured; a line for each stretch: its number, sign and turns, and the cost it is part of
+ *   cost places           the same of activations alone that go last and first
  *   cost mixed N          a tape of N records, made as the baseline answers
  *   cost repeated N       a tape from standard input, its records N times; the count of its records goes to standard error
  *
@@ -117,32 +118,41 @@ static unsigned calls_for(enum what w, unsigned jobs, struct record calls[PLACES
 
 /* ---- a call by value: a tape with the call's record at its end less the tape without it, calls and records less records alone */
 
-static void tapes(char sign, enum what w, unsigned jobs, size_t n, uint64_t (*ours)(const uint8_t *, size_t), uint64_t (*theirs)(const uint8_t *, size_t)) {
+/* What is measured: part of which cost. */
+struct part {
+    const char *group, *what;
+    unsigned size;
+};
+
+static void tapes(char sign, struct part p, size_t n, uint64_t (*ours)(const uint8_t *, size_t), uint64_t (*theirs)(const uint8_t *, size_t)) {
     uint64_t x, y;
-    next(sign, 1, "value", what_names[w], jobs, "ours");
+    next(sign, 1, p.group, p.what, p.size, "ours");
     COUNTED(x = ours(bytes, n));
-    next(sign, 1, "value", what_names[w], jobs, "C");
+    next(sign, 1, p.group, p.what, p.size, "C");
     COUNTED(y = theirs(bytes, n));
-    must(x == y, what_names[w]);
+    must(x == y, p.what);
 }
 
-static void by_value(enum what w, unsigned jobs) {
-    struct line lines[PLACES];
-    struct record calls[PLACES + 1];
-    unsigned n = calls_for(w, jobs, calls);
+static void by_value(struct part p, const struct line lines[PLACES], const struct record *calls, unsigned n) {
     size_t without = 0;
     uint64_t preceding = 0;
-    table(lines);
     put_table(lines, PLACES);
     for (unsigned i = 0; i < n; i++) {
         without = length;
         put_record(preceding, calls[i]);
         preceding = calls[i].tick;
     }
-    tapes('+', w, jobs, length, gauge_calls, base_calls);
-    tapes('-', w, jobs, without, gauge_calls, base_calls);
-    tapes('-', w, jobs, length, gauge_records, base_records);
-    tapes('+', w, jobs, without, gauge_records, base_records);
+    tapes('+', p, length, gauge_calls, base_calls);
+    tapes('-', p, without, gauge_calls, base_calls);
+    tapes('-', p, length, gauge_records, base_records);
+    tapes('+', p, without, gauge_records, base_records);
+}
+
+static void call_by_value(enum what w, unsigned jobs) {
+    struct line lines[PLACES];
+    struct record calls[PLACES + 1];
+    table(lines);
+    by_value((struct part){"value", what_names[w], jobs}, lines, calls, calls_for(w, jobs, calls));
 }
 
 /* ---- a call for C, on a state where it stands */
@@ -213,6 +223,36 @@ static void in_place(enum what w, unsigned jobs) {
     unsigned n = calls_for(w, jobs, calls);
     call_all(calls, n, w, jobs, true);
     same_reasons();
+}
+
+/* ---- an activation by value among so many pending jobs: task 0 with the shortest deadline goes first, task 1 with the longest last */
+
+static const unsigned waiting[] = {1, 8, 16, 31};
+
+static void places_table(struct line lines[PLACES]) {
+    static const struct line short_line = {SHORT, 3, 1}, long_line = {10 * LONG, 1, 1}, other_line = {LONG, 2, 1};
+    for (unsigned i = 0; i < PLACES; i++) lines[i] = i == 0 ? short_line : i == 1 ? long_line : other_line;
+}
+
+static void activation(uint8_t task, unsigned jobs) {
+    struct line lines[PLACES];
+    struct record calls[PLACES];
+    struct answer a;
+    uint8_t other = task == 1 ? 0 : 1;
+    struct part p = {"activate", task == 1 ? "long deadline, goes last" : "short deadline, goes first", jobs};
+    places_table(lines);
+    for (unsigned i = 0; i < jobs; i++) calls[i] = (struct record){0, ACTIVATE, i + 2 < PLACES ? (uint8_t)(i + 2) : other};
+    calls[jobs] = (struct record){1, ACTIVATE, task};
+    by_value(p, lines, calls, jobs + 1);
+    must(sched_check(&base, lines, PLACES).number == 0, p.what);
+    for (unsigned i = 0; i <= jobs; i++) make_call(&base, &calls[i], &a);
+    must(a.result == 0 && base.count == jobs + 1 && base.jobs[task == 1 ? jobs : 0].task == task, p.what);
+}
+
+static void places(void) {
+    for (unsigned task = 2; task-- > 0;) {
+        for (unsigned i = 0; i < sizeof waiting / sizeof waiting[0]; i++) activation((uint8_t)task, waiting[i]);
+    }
 }
 
 /* ---- the question for C, on a state where it stands: why a task's first pending job runs or waits */
@@ -348,9 +388,11 @@ int main(int argc, char **argv) {
     if (argc == 3 && strcmp(argv[1], "repeated") == 0) return repeated((unsigned)atoi(argv[2])), 0;
     next('+', 1, "empty", "stretch", 0, "ours");
     COUNTED();
+    places();
+    if (argc == 2 && strcmp(argv[1], "places") == 0) return 0;
     for (unsigned w = 0; w < WHATS; w++) {
         for (unsigned i = 0; i < sizeof sizes / sizeof sizes[0]; i++) {
-            by_value(w, sizes[i]);
+            call_by_value(w, sizes[i]);
             in_place(w, sizes[i]);
         }
     }

@@ -121,8 +121,9 @@ void sched_activate(struct sched *s, uint64_t at, uint8_t task, struct answer *a
     if (due > GREATEST_TICK) return refuse(s, 9, a);
     move(s, at, a);
 
-    size_t i = place_of(s, due);
-    memmove(&s->jobs[i + 1], &s->jobs[i], (s->count - i) * sizeof s->jobs[0]);
+    /* the new job walks in from the back: those that are due later go one place back */
+    size_t i = s->count;
+    for (; i > 0 && s->jobs[i - 1].due > due; i--) s->jobs[i] = s->jobs[i - 1];
     s->jobs[i] = (struct job){due, task, i == 0};
     s->count++;
     t->pending++;

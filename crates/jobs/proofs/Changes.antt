@@ -1,107 +1,35 @@
 -- What the functions that change a list make of it, blanks behind it and all. Assumes nothing.
-use Prim.Native.Nat.{ℕ, zero, suc, _+_, _-_, _≤_, _<_, min}
+use Prim.Native.Nat.{ℕ, suc, _+_, _-_, _≤_, _<_}
 use mathlib.Core.Path.{_≡_, refl, sym, ap, _∙_}
 use mathlib.Core.Bool.{Bool, true, false, cond}
-use mathlib.Core.List.{List, [], _∷_, _++_, append-assoc}
-use native.Mathlib.Nat.{not-suc-le-zero, le-of-suc-le-suc}
+use mathlib.Core.List.{List, [], _∷_, _++_}
+use native.Mathlib.Nat.{not-suc-le-zero}
 use native.Mathlib.Omega.{arith}
-use borrow.Author.Tests.{ltb-false, le-ltb, lt-ltb}
+use borrow.Author.Tests.{lt-ltb}
 use lib.Dec.{ltb}
-use lib.ListN.{length, take, drop, getD, replicate, List·getD-append}
-use lib.Seq.{take-append-seam, drop-append-add, take-append-le}
-use Rattle.rules.specs.Words.{places, All}
+use lib.ListN.{length, take, drop, getD, replicate}
+use lib.Seq.{take-append-seam, drop-append-add}
+use Rattle.rules.specs.Words.{places}
 use Rattle.rules.specs.declared.Job.{Job}
 use Rattle.jobs.specs.declared.JobList.{JobList}
 use Rattle.jobs.specs.Listed.{blankJob, view, pack, Shaped, Sorted, goesBefore, insertDue, releaseFirst}
-use Rattle.jobs.specs.Inside.{aimOf, behind, openAt, enterAt, slide, slideAt, ledIf, leaveAt, replaceAt}
+use Rattle.jobs.specs.Inside.{aimOf, enterAt, slide, slideAt, ledIf, leaveAt, replaceAt}
+use Rattle.rules.proofs.Lists.{length-insert as inserted-length}
 use Rattle.jobs.proofs.Laid.{view-length, shaped-length}
 
 -- ---- a new job goes in at its place
 
--- the place of the first job that a new one goes before, or the place behind all
-unfoldable placeOf : Job → List Job → ℕ
-placeOf j [] = 0
-placeOf j (x ∷ xs) = cond (goesBefore j x) 0 (suc (placeOf j xs))
-
-place-le : (j : Job) (xs : List Job) → placeOf j xs ≤ length xs
-unfolding placeOf
-place-le j [] = omega arith
-place-le j (x ∷ xs) = go (goesBefore j x) (place-le j xs)
-  where
-    go : (b : Bool) → placeOf j xs ≤ length xs → cond b 0 (suc (placeOf j xs)) ≤ suc (length xs)
-    go true ih = omega arith
-    go false ih = omega arith
-
-insert-at : (j : Job) (xs : List Job) → insertDue j xs ≡ take (placeOf j xs) xs ++ j ∷ drop (placeOf j xs) xs
-unfolding insertDue placeOf
-insert-at j [] = refl
-insert-at j (x ∷ xs) = go (goesBefore j x) (insert-at j xs)
-  where
-    go : (b : Bool) → insertDue j xs ≡ take (placeOf j xs) xs ++ j ∷ drop (placeOf j xs) xs
-        → cond b (j ∷ x ∷ xs) (x ∷ insertDue j xs) ≡ take (cond b 0 (suc (placeOf j xs))) (x ∷ xs) ++ j ∷ drop (cond b 0 (suc (placeOf j xs))) (x ∷ xs)
-    go true ih = refl
-    go false ih = ap (λ (l : List Job). x ∷ l) ih
-
--- it is no further than a job that the new one goes before
-place-most : (j : Job) (xs : List Job) (n : ℕ) → n < length xs → goesBefore j (getD xs n blankJob) ≡ true → placeOf j xs ≤ n
-unfolding placeOf
-place-most j [] n h e = absurd (not-suc-le-zero h)
-place-most j (x ∷ xs) zero h e = rw e (omega arith)
-place-most j (x ∷ xs) (suc n) h e = go (goesBefore j x) (place-most j xs n (le-of-suc-le-suc h) e)
-  where
-    go : (b : Bool) → placeOf j xs ≤ n → cond b 0 (suc (placeOf j xs)) ≤ suc n
-    go true ih = omega arith
-    go false ih = omega arith
-
-all-at : (P : Job → Type 0) (xs : List Job) (n : ℕ) → All P xs → n < length xs → P (getD xs n blankJob)
-all-at P [] n a h = absurd (not-suc-le-zero h)
-all-at P (x ∷ xs) zero a h = a .0
-all-at P (x ∷ xs) (suc n) a h = all-at P xs n (a .1) (le-of-suc-le-suc h)
-
--- and behind a job that it doesn't go before, in a sorted list
-place-least : (j : Job) (xs : List Job) (n : ℕ) → Sorted xs → n < length xs → goesBefore j (getD xs n blankJob) ≡ false → n < placeOf j xs
-unfolding placeOf
-place-least j [] n s h e = absurd (not-suc-le-zero h)
-place-least j (x ∷ xs) zero s h e = rw e (omega arith)
-place-least j (x ∷ xs) (suc n) s h e =
-    let y = getD xs n blankJob in
-    let p : x .due .0 ≤ y .due .0 = ltb-false (y .due .0) (x .due .0) (all-at (λ (z : Job). goesBefore z x ≡ false) xs n (s .0) (le-of-suc-le-suc h)) in
-    let q : y .due .0 ≤ j .due .0 = ltb-false (j .due .0) (y .due .0) e in
-    let f : goesBefore j x ≡ false = le-ltb (j .due .0) (x .due .0) (omega arith) in
-    rw f (omega (arith, place-least j xs n (s .1) (le-of-suc-le-suc h) e))
-
-behind-is : (j : Job) (xs ys : List Job) (n : ℕ) → Sorted xs → n ≤ length xs → ((k : ℕ) → k < n → getD ys k blankJob ≡ getD xs k blankJob) → behind n j ys ≡ min n (placeOf j xs)
-unfolding behind
-behind-is j xs ys zero s h same = omega arith
-behind-is j xs ys (suc n) s h same =
-    rw (same n (omega arith)) (go (goesBefore j (getD xs n blankJob)) refl (behind-is j xs ys n s (omega arith) (λ k g. same k (omega arith))))
-  where
-    go : (b : Bool) → goesBefore j (getD xs n blankJob) ≡ b → behind n j ys ≡ min n (placeOf j xs) → cond b (behind n j ys) (suc n) ≡ min (suc n) (placeOf j xs)
-    go true e ih = omega (arith, ih, place-most j xs n h e)
-    go false e ih = omega (arith, place-least j xs n s h e)
-
-enter-padded : (j : Job) (xs : List Job) (m : ℕ) → Sorted xs → enterAt (length xs) j (xs ++ replicate (suc m) blankJob) ≡ insertDue j xs ++ replicate m blankJob
+enter-padded : (j : Job) (xs : List Job) (m : ℕ) → enterAt (length xs) j (xs ++ replicate (suc m) blankJob) ≡ insertDue j xs ++ replicate m blankJob
 unfolding enterAt
-enter-padded j xs m s =
+enter-padded j xs m =
     let bl = replicate (suc m) blankJob in
-    let n = length xs in
-    let p : behind n j (xs ++ bl) ≡ placeOf j xs = behind-is j xs (xs ++ bl) n s (omega arith) (λ k h. List·getD-append xs bl blankJob k h) ∙ omega (arith, place-le j xs) in
-    let e : suc n ≡ n + 1 = omega arith in
-    let b : drop (suc n) (xs ++ bl) ≡ replicate m blankJob = ap (λ k. drop k (xs ++ bl)) e ∙ drop-append-add xs bl 1 in
-    let q = placeOf j xs in
-    ap (λ k. openAt k n j (xs ++ bl)) p
-    ∙ (λ i. take-append-le q xs bl (place-le j xs) i ++ j ∷ (drop q (take-append-seam xs bl i) ++ b i))
-    ∙ sym (append-assoc (take q xs) (j ∷ drop q xs) (replicate m blankJob))
-    ∙ ap (λ (l : List Job). l ++ replicate m blankJob) (sym (insert-at j xs))
+    let e : suc (length xs) ≡ length xs + 1 = omega arith in
+    let b : drop (suc (length xs)) (xs ++ bl) ≡ replicate m blankJob = ap (λ k. drop k (xs ++ bl)) e ∙ drop-append-add xs bl 1 in
+    λ i. insertDue j (take-append-seam xs bl i) ++ b i
 
 pub length-insert : (j : Job) (xs : List Job) → length (insertDue j xs) ≡ suc (length xs)
 unfolding insertDue
-length-insert j [] = refl
-length-insert j (x ∷ xs) = go (goesBefore j x) (length-insert j xs)
-  where
-    go : (b : Bool) → length (insertDue j xs) ≡ suc (length xs) → length (cond b (j ∷ x ∷ xs) (x ∷ insertDue j xs)) ≡ suc (suc (length xs))
-    go true ih = refl
-    go false ih = ap suc ih
+length-insert j xs = inserted-length goesBefore j xs
 
 -- ---- the first job leaves
 
@@ -138,14 +66,14 @@ length-release (x ∷ xs) = refl
 
 -- ---- on a list that is laid out
 
-insert-packed : (j : Job) (xs : List Job) → Sorted xs → length xs < places
+insert-packed : (j : Job) (xs : List Job) → length xs < places
     → _≡_ {A = JobList} (record { jobs = enterAt (pack xs .count) j (pack xs .jobs); count = pack xs .count + 1 }) (pack (insertDue j xs))
 unfolding pack
-insert-packed j xs s h =
+insert-packed j xs h =
     let e : places - length xs ≡ suc ((places - 1) - length xs) = omega arith in
     let f : places - length (insertDue j xs) ≡ (places - 1) - length xs = omega (arith, length-insert j xs) in
     let q : length xs + 1 ≡ length (insertDue j xs) = omega (arith, length-insert j xs) in
-    let p : enterAt (length xs) j (xs ++ replicate (places - length xs) blankJob) ≡ insertDue j xs ++ replicate (places - length (insertDue j xs)) blankJob = rw (e, f) (enter-padded j xs ((places - 1) - length xs) s) in
+    let p : enterAt (length xs) j (xs ++ replicate (places - length xs) blankJob) ≡ insertDue j xs ++ replicate (places - length (insertDue j xs)) blankJob = rw (e, f) (enter-padded j xs ((places - 1) - length xs)) in
     λ i. record { jobs = p i; count = q i }
 
 remove-packed : (xs : List Job) → 0 < length xs → length xs ≤ places
@@ -175,7 +103,7 @@ replace-packed j (x ∷ xs) h m =
 -- ---- a refused call
 
 stay-entered : (xs : List Job) → 0 < length xs → enterAt 0 (getD xs 0 blankJob) xs ≡ xs
-unfolding enterAt behind
+unfolding enterAt insertDue
 stay-entered [] h = absurd (not-suc-le-zero h)
 stay-entered (x ∷ xs) h = refl
 
@@ -210,13 +138,18 @@ module _ (l : JobList) (s : Shaped l) where
   aim-most j true = s .small
   aim-most j false = omega arith
 
-  pub insert-law : (j : Job) (b : Bool) (k : ℕ) → Sorted (view l) → (b ≡ true → l .count < places) → cond b (l .count + 1) (l .count) ≡ k
+  -- those that a call works among are in order, if the list is
+  pub aim-sorted : (j : Job) (b : Bool) → Sorted (view l) → Sorted (take (aimOf l j b .many) (l .jobs))
+  aim-sorted j true o = o
+  aim-sorted j false o = tt
+
+  pub insert-law : (j : Job) (b : Bool) (k : ℕ) → (b ≡ true → l .count < places) → cond b (l .count + 1) (l .count) ≡ k
       → _≡_ {A = JobList} (record { jobs = enterAt (aimOf l j b .many) (aimOf l j b .put) (l .jobs); count = k }) (pack (cond b (insertDue j (view l)) (view l)))
-  insert-law j true k o h e =
+  insert-law j true k h e =
       let m : length (view l) < places = omega (arith, view-length l s, h refl) in
       ap (λ n. record { jobs = enterAt (l .count) j (l .jobs); count = n }) (sym e)
-      ∙ ap (λ (x : JobList). record { jobs = enterAt (x .count) j (x .jobs); count = x .count + 1 }) (s .blanks) ∙ insert-packed j (view l) o m
-  insert-law j false k o h e = same _ k (stay-entered (l .jobs) none) (sym e)
+      ∙ ap (λ (x : JobList). record { jobs = enterAt (x .count) j (x .jobs); count = x .count + 1 }) (s .blanks) ∙ insert-packed j (view l) m
+  insert-law j false k h e = same _ k (stay-entered (l .jobs) none) (sym e)
 
   pub remove-law : (b : Bool) (k : ℕ) → (b ≡ true → 0 < l .count) → cond b (l .count - 1) (l .count) ≡ k
       → _≡_ {A = JobList} (record { jobs = leaveAt (aimOf l blankJob b .many) (aimOf l blankJob b .put) (l .jobs); count = k }) (pack (cond b (releaseFirst (drop 1 (view l))) (view l)))

@@ -2,16 +2,18 @@
 use Prim.Native.Nat.{ℕ, zero, suc, _+_, _-_, _≤_, _<_}
 use mathlib.Core.Path.{_≡_, refl, sym, ap, _∙_}
 use mathlib.Core.Bool.{Bool, true, false}
-use mathlib.Core.List.{List, _∷_, _++_}
+use mathlib.Core.List.{List, _∷_, _++_, append-assoc}
 use native.Mathlib.Nat.{not-suc-le-zero}
 use native.Mathlib.Numerals.{add-one}
 use native.Mathlib.Omega.{arith}
-use borrow.Author.Tests.{le-ltb, lt-ltb}
+use borrow.Author.Tests.{ltb-true, ltb-false, le-ltb, lt-ltb}
 use lib.ListN.{length, take, drop, set, getD, length-take, drop-of-length-le}
-use lib.Seq.{drop-cons, take-suc-set, drop-set-lt, append-snoc, set-split, take-set-le, take-take, getD-take, drop-at, length-take-le}
+use lib.Seq.{drop-cons, take-suc, take-suc-set, drop-set-lt, append-snoc, set-split, take-set-le, take-take, getD-take, drop-at, length-take-le}
 use Rattle.rules.specs.declared.Job.{Job}
-use Rattle.jobs.specs.Listed.{blankJob, goesBefore}
-use Rattle.jobs.specs.Inside.{behind, openAt, enterAt, slide, slideAt, ledIf, leaveAt, replaceAt}
+use Rattle.rules.specs.Search.{fromBack}
+use Rattle.rules.proofs.Searched.{Orders, back-last, same-place, insert-at}
+use Rattle.jobs.specs.Listed.{blankJob, goesBefore, Sorted, insertDue}
+use Rattle.jobs.specs.Inside.{enterAt, slide, slideAt, ledIf, leaveAt, replaceAt}
 
 -- ---- a new job: turns of `entered`
 
@@ -41,21 +43,20 @@ module _ (xs out : List Job) (n k : ℕ) (front : take (suc k) out ≡ take (suc
       ∙ (λ i. f i ∷ back i)
       ∙ ap (λ (l : List Job). l ++ drop (suc n) xs) (sym (drop-cons (take n xs) k blankJob w))
 
-pub behind-step : (j : Job) (xs : List Job) (k : ℕ) → goesBefore j (getD xs k blankJob) ≡ true → behind (suc k) j xs ≡ behind k j xs
-unfolding behind
-behind-step j xs k h = rw h
+-- the search from the back: past a job that the new one goes before, and behind one that it doesn't
+pub back-past : (j : Job) (xs : List Job) (k : ℕ) → k < length xs → goesBefore j (getD xs k blankJob) ≡ true
+    → fromBack goesBefore j (take (suc k) xs) ≡ fromBack goesBefore j (take k xs)
+back-past j xs k h e =
+    ap (fromBack goesBefore j) (take-suc xs k blankJob h) ∙ back-last goesBefore j (take k xs) (getD xs k blankJob) ∙ rw e
 
-pub behind-here : (j : Job) (xs : List Job) (k : ℕ) → goesBefore j (getD xs k blankJob) ≡ false → behind (suc k) j xs ≡ suc k
-unfolding behind
-behind-here j xs k h = rw h
-
-pub behind-none : (j : Job) (xs : List Job) → behind 0 j xs ≡ 0
-unfolding behind
-behind-none j xs = refl
+pub back-here : (j : Job) (xs : List Job) (k : ℕ) → k < length xs → goesBefore j (getD xs k blankJob) ≡ false → fromBack goesBefore j (take (suc k) xs) ≡ suc k
+back-here j xs k h e =
+    ap (fromBack goesBefore j) (take-suc xs k blankJob h) ∙ back-last goesBefore j (take k xs) (getD xs k blankJob) ∙ rw e (ap suc (length-take-le k xs (omega arith)))
 
 -- what a turn keeps: those in front of place i stand where they stood, those from there on one place back, and the job's place is no further
 abbrev pub Entering : List Job → Job → ℕ → List Job → ℕ → Type 0
-Entering xs j n out i = (take i out ≡ take i xs) × (drop (suc i) out ≡ drop i (take n xs) ++ drop (suc n) xs) × (behind i j xs ≡ behind n j xs)
+Entering xs j n out i =
+    (take i out ≡ take i xs) × (drop (suc i) out ≡ drop i (take n xs) ++ drop (suc n) xs) × (fromBack goesBefore j (take i xs) ≡ fromBack goesBefore j (take n xs))
 
 pub enter-turn : (xs out : List Job) (j : Job) (n i : ℕ) → 0 < i → i ≤ n → n < length xs → length out ≡ length xs
     → goesBefore j (getD out (i - 1) blankJob) ≡ true → Entering xs j n out i → Entering xs j n (set out i (getD out (i - 1) blankJob)) (i - 1)
@@ -64,21 +65,34 @@ enter-turn xs out j n (suc k) z h m e b t =
     let q : suc k - 1 ≡ k = omega arith in
     let g : goesBefore j (getD xs k blankJob) ≡ true = ap (λ (x : Job). goesBefore j x) (sym (enter-same xs out n k (t .0))) ∙ (rw q at b) in
     rw q
-    (enter-front xs out n k (t .0) _, enter-back xs out n k (t .0) (omega arith) m e (t .1), sym (behind-step j xs k g) ∙ t .2)
+    (enter-front xs out n k (t .0) _, enter-back xs out n k (t .0) (omega arith) m e (t .1), sym (back-past j xs k (omega arith) g) ∙ t .2)
 
 -- where it ends the job's place is
-pub enter-halt : (xs out : List Job) (j : Job) (n i : ℕ) → 0 < i → goesBefore j (getD out (i - 1) blankJob) ≡ false → Entering xs j n out i → i ≡ behind n j xs
-enter-halt xs out j n zero z b t = absurd (not-suc-le-zero z)
-enter-halt xs out j n (suc k) z b t =
+pub enter-halt : (xs out : List Job) (j : Job) (n i : ℕ) → 0 < i → i ≤ n → n < length xs → goesBefore j (getD out (i - 1) blankJob) ≡ false
+    → Entering xs j n out i → i ≡ fromBack goesBefore j (take n xs)
+enter-halt xs out j n zero z h m b t = absurd (not-suc-le-zero z)
+enter-halt xs out j n (suc k) z h m b t =
     let q : suc k - 1 ≡ k = omega arith in
     let g : goesBefore j (getD xs k blankJob) ≡ false = ap (λ (x : Job). goesBefore j x) (sym (enter-same xs out n k (t .0))) ∙ (rw q at b) in
-    sym (behind-here j xs k g) ∙ t .2
+    sym (back-here j xs k (omega arith) g) ∙ t .2
 
--- the job is put at its place
-pub enter-end : (xs out : List Job) (j : Job) (n i : ℕ) → i < length out → Entering xs j n out i → i ≡ behind n j xs → set out i j ≡ enterAt n j xs
-unfolding enterAt
-enter-end xs out j n i h t e =
-    set-split out i j h ∙ (λ w. t .0 w ++ j ∷ t .1 w) ∙ ap (λ p. openAt p n j xs) e
+-- the order of the list is one
+orders : Orders goesBefore
+orders j x y h n = lt-ltb (j .due .0) (y .due .0) (omega (arith, ltb-true (j .due .0) (x .due .0) h, ltb-false (y .due .0) (x .due .0) n))
+
+-- the job is put at its place, which in a list that is in order is the one from the front
+pub enter-end : (xs out : List Job) (j : Job) (n i : ℕ) → i < length out → i ≤ n → Sorted (take n xs) → Entering xs j n out i
+    → i ≡ fromBack goesBefore j (take n xs) → set out i j ≡ enterAt n j xs
+unfolding enterAt insertDue
+enter-end xs out j n i h m s t e =
+    let ys = take n xs in
+    let r = drop (suc n) xs in
+    set-split out i j h
+    ∙ (λ w. t .0 w ++ j ∷ t .1 w)
+    ∙ ap (λ (l : List Job). l ++ j ∷ (drop i ys ++ r)) (sym (take-take i n xs m))
+    ∙ sym (append-assoc (take i ys) (j ∷ drop i ys) r)
+    ∙ ap (λ k. (take k ys ++ j ∷ drop k ys) ++ r) (e ∙ same-place goesBefore orders j ys s)
+    ∙ ap (λ (l : List Job). l ++ r) (sym (insert-at goesBefore j ys))
 
 -- ---- the first job leaves: turns of `left` and `replaced`
 

@@ -10,7 +10,7 @@ use Rattle.rules.specs.declared.Late.{Late}
 use Rattle.rules.specs.Late.{isPast}
 use Rattle.jobs.specs.declared.JobList.{JobList}
 use Rattle.jobs.specs.declared.Aim.{Aim}
-use Rattle.jobs.specs.Listed.{blankJob, goesBefore, releasedJob}
+use Rattle.jobs.specs.Listed.{blankJob, goesBefore, insertDue, releasedJob}
 
 -- a refused call works among no jobs, and puts the job in the first place where it stands
 abbrev pub aimOf : JobList → Job → Bool → Aim
@@ -18,17 +18,9 @@ aimOf l j b = cond b (record { many = l .count; put = j }) (record { many = 0; p
 
 -- ---- a new job
 
--- the place behind the last of the first n jobs that j doesn't go before
-unfoldable pub behind : ℕ → Job → List Job → ℕ
-behind zero j xs = 0
-behind (suc n) j xs = cond (goesBefore j (getD xs n blankJob)) (behind n j xs) (suc n)
-
--- j at place p, what stood there and behind it, up to n, one place back
-abbrev pub openAt : ℕ → ℕ → Job → List Job → List Job
-openAt p n j xs = take p xs ++ j ∷ (drop p (take n xs) ++ drop (suc n) xs)
-
+-- j at its place among the first n jobs; the one place behind them is taken
 unfoldable pub enterAt : ℕ → Job → List Job → List Job
-enterAt n j xs = openAt (behind n j xs) n j xs
+enterAt n j xs = insertDue j (take n xs) ++ drop (suc n) xs
 
 -- ---- the first job leaves
 

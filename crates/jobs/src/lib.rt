@@ -3,7 +3,7 @@ ghost use mathlib.Core.Path.{_≡_};
 ghost use mathlib.Core.List.{[]};
 ghost use mathlib.Core.Bool.{true, cond};
 ghost use Prim.Native.Nat.{_≤_, _<_};
-ghost use lib.ListN.{drop};
+ghost use lib.ListN.{take, drop};
 ghost use Rattle.rules.specs.Words.{places, only};
 ghost use Rattle.jobs.specs.Listed.{blankJob, isEarlier, goesBefore, view, pack, Shaped, Sorted, isFirstIn, insertDue, releasedJob, releaseFirst, isOf, leadOf, leadWith, pendingOf, firstIn, lateIn, newlyLateIn};
 ghost use Rattle.jobs.specs.Inside.{aimOf, enterAt, leaveAt, replaceAt, lateStep};
@@ -88,9 +88,9 @@ fn aimed(list: JobList, job: Job, accepted: bool) -> Aim
     }
 }
 
-// A new job: those that it goes before go one place back, the last of them first.
+// A new job walks in from the back: those that it goes before go one place back, up to the first that it doesn't go before. In a list that is in order that is its place.
 fn entered(jobs: [Job; PLACES], aim: Aim) -> [Job; PLACES]
-    requires { ⌜ aim .many < places ⌝ }
+    requires { ⌜ (aim .many < places) × Sorted (take (aim .many) jobs) ⌝ }
     ensures { λ r. ⌜ r ≡ enterAt (aim .many) (aim .put) jobs ⌝ }
 {
     let mut out = jobs;
@@ -142,7 +142,7 @@ fn left(jobs: [Job; PLACES], aim: Aim) -> [Job; PLACES]
     out
 }
 
-// The first job leaves and a new one comes: those that it doesn't go before go one place up, and the new first one is released.
+// The first job leaves and a new one comes: those that it doesn't go before have to go one place up, so it walks in from the front; the new first one is released.
 fn replaced(jobs: [Job; PLACES], aim: Aim) -> [Job; PLACES]
     requires { ⌜ aim .many ≤ places ⌝ }
     ensures { λ r. ⌜ r ≡ replaceAt (aim .many) (aim .put) jobs ⌝ }

@@ -111,4 +111,9 @@ cases =
       why-print-bad-record = refl;
       why-print-bad-table = refl;
       why-print-nothing-read = refl;
+      place-last = refl;
+      place-between = refl;
+      place-first = refl;
+      place-alone = refl;
+      place-unordered = refl;
     }

@@ -19,6 +19,7 @@ use Rattle.rules.proofs.Marks.{late-needs-no-mark}
 use Rattle.rules.proofs.Places.{places-suffice}
 use Rattle.rules.proofs.Counted.{counts-add-up}
 use Rattle.rules.proofs.Reasons.{why-true, why-refused}
+use Rattle.rules.proofs.Searched.{place-from-back, list-from-back}
 use Rattle.rules.proofs.Cases.{cases}
 
 pub the-claims : Claims
@@ -52,5 +53,7 @@ the-claims =
       counts-add-up = counts-add-up;
       why-true = why-true;
       why-refused = why-refused;
+      place-from-back = place-from-back;
+      list-from-back = list-from-back;
       cases = cases;
     }

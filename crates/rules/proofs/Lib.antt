@@ -35,5 +35,6 @@ pub mod Reported
 pub mod Places
 pub mod Counted
 pub mod Reasons
+pub mod Searched
 pub mod Cases
 pub mod Claims

@@ -1,4 +1,4 @@
--- Document 01, "The program and one whole run" and "Errors a builder could fall into": the printed run, cases a to l (j as Q-2 has it), and other single rows, as one statement; and those of Q-1. Assumes nothing.
+-- Document 01, "The program and one whole run" and "Errors a builder could fall into": the printed run, cases a to l (j as Q-2 has it), and other single rows, as one statement; and those of Q-1 and Q-3. Assumes nothing.
 use Prim.Native.Nat.{ℕ, _+_, _*_, _/_}
 use Prim.Native.String.{String}
 use mathlib.Core.Path.{_≡_}
@@ -6,6 +6,7 @@ use mathlib.Core.Bool.{true, false}
 use mathlib.Core.List.{List, [], _∷_, _++_}
 use mathlib.Core.Option.{some}
 use lib.ListN.{take, replicate}
+use lib.Dec.{ltb}
 use Rattle.rules.specs.declared.Tick.{Tick}
 use Rattle.rules.specs.declared.Line.{Line}
 use Rattle.rules.specs.declared.Named.the-variants.{NoneNamed, TheLine, BothLines}
@@ -37,6 +38,7 @@ use Rattle.rules.specs.declared.Why.{Why}
 use Rattle.rules.specs.declared.Why.the-variants.{Because}
 use Rattle.rules.specs.Why.{why}
 use Rattle.rules.specs.WhyPrint.{whyTranscript}
+use Rattle.rules.specs.Search.{fromFront, fromBack, readsFromBack}
 
 abbrev pub line : ℕ → ℕ → ℕ → Line
 line d p l = record { deadline = record { 0 = d }; priority = p; limit = l }
@@ -105,6 +107,10 @@ printedTape =
 abbrev pub lines : List String → List ℕ
 lines [] = []
 lines (s ∷ ss) = ended (ascii s) ++ lines ss
+
+-- a new deadline among deadlines: its place from the front, its place from the back, and how many are read from the back
+abbrev pub searched : ℕ → List ℕ → List ℕ
+searched n l = fromFront ltb n l ∷ fromBack ltb n l ∷ readsFromBack ltb n l ∷ []
 
 pub record Cases : Type 0 where
   -- the printed run
@@ -261,3 +267,9 @@ pub record Cases : Type 0 where
       whyTranscript (0x01 ∷ 0x03 ∷ 0x0C ∷ 0x02 ∷ 0x01 ∷ 0x00 ∷ 0x00 ∷ 0x04 ∷ []) ≡ lines ("task 0 is running" ∷ "tape 22 at 7" ∷ [])
   pub why-print-bad-table : whyTranscript (0x02 ∷ 0x03 ∷ 0x01 ∷ 0x01 ∷ 0x05 ∷ 0x02 ∷ 0x01 ∷ 0x04 ∷ []) ≡ lines ("table 5 0 1" ∷ [])
   pub why-print-nothing-read : whyTranscript [] ≡ lines ("tape 20 at 0" ∷ [])
+  -- Q-3: a job that goes behind all others reads one; where the list is not in order the two places part
+  pub place-last : searched 6 (3 ∷ 5 ∷ 5 ∷ 6 ∷ []) ≡ 4 ∷ 4 ∷ 1 ∷ []
+  pub place-between : searched 5 (3 ∷ 5 ∷ 5 ∷ 6 ∷ []) ≡ 3 ∷ 3 ∷ 2 ∷ []
+  pub place-first : searched 2 (3 ∷ 5 ∷ 5 ∷ 6 ∷ []) ≡ 0 ∷ 0 ∷ 4 ∷ []
+  pub place-alone : searched 2 [] ≡ 0 ∷ 0 ∷ 0 ∷ []
+  pub place-unordered : searched 4 (5 ∷ 3 ∷ []) ≡ 0 ∷ 2 ∷ 1 ∷ []

@@ -1,6 +1,7 @@
 -- All that is claimed of the rules, in one place; proofs/Claims.antt proves it. Assumes nothing.
 use Rattle.rules.specs.Statement.{Demand3, Demand3-answers, Demand3-broken, PlainIsEdf, KernelIsPriority, PreemptedOldest, ChainIsBoth, CheckExact, RefusalsExact, PlainRefusalsExact, LastAccepted, RefusedUnchanged, NoTen, ListHolds, RunsReleased, ListMoves, CallsExact, CallsMade, ReleasedOnce, NothingVanishes, ApartPriorities, LateOnce, ReportedOnce, LateNeedsNoMark, PlacesSuffice, CountsAddUp}
 use Rattle.rules.specs.Why.{WhyTrue, WhyRefused}
+use Rattle.rules.specs.Search.{PlaceFromBack, ListFromBack}
 use Rattle.rules.specs.Cases.{Cases}
 
 pub record Claims : Type 0 where
@@ -40,5 +41,8 @@ pub record Claims : Type 0 where
   -- Q-1: exactly one reason is true of a task's first pending job, and it is the one given; 3 exactly for a task without a line
   pub why-true : WhyTrue
   pub why-refused : WhyRefused
+  -- Q-3: from the back a new job finds the place that it finds from the front: in every list that is in order, and so in the layer's
+  pub place-from-back : PlaceFromBack
+  pub list-from-back : ListFromBack
   -- the printed run, and cases a to l
   pub cases : Cases

@@ -13,6 +13,7 @@ pub mod Number
 pub mod Tape
 pub mod Run
 pub mod Why
+pub mod Search
 pub mod Print
 pub mod WhyPrint
 pub mod History

@@ -1,9 +1,9 @@
-//! Tapes at the borders of document 01, Q-1 and Q-2, a fixed list that is run first, whatever the seed.
+//! Tapes at the borders of document 01 and, a fixed list that is run first, whatever the seed.
 
 use crate::layer::{Call, GREATEST};
 use crate::number::write;
 use crate::program::MOST_BYTES;
-use crate::table::{Line, LONGEST};
+use crate::table::{Line, LONGEST, MOST};
 use crate::tape::{kind, table_bytes};
 
 /// Table P of the document.
@@ -58,6 +58,7 @@ pub fn edges() -> Vec<Vec<u8>> {
     all.extend(boards());
     all.extend(ends());
     all.extend(deadlines());
+    all.extend(places());
     all
 }
 
@@ -542,6 +543,80 @@ fn deadlines() -> Vec<Vec<u8>> {
                 all.push(tape(&lines, &[board, &again].concat()));
             }
         }
+    }
+    all
+}
+
+// lists of some lengths, and a new job at every place of each, behind its equals too
+fn places() -> Vec<Vec<u8>> {
+    let mut all = Vec::new();
+    for length in [0, 1, 2, 8, 16, 31] {
+        let apart: Vec<u64> = (1..=length).map(|nth| 2 * nth as u64).collect();
+        for place in 0..=length {
+            all.extend(insertions(&apart, 2 * place as u64 + 1));
+        }
+        for (from, to) in blocks(length) {
+            let mut dues = apart.clone();
+            let due = dues[from];
+            dues[from..to].fill(due);
+            all.extend(insertions(&dues, due));
+        }
+    }
+    all
+}
+
+// places of a list, from one to below another: all; in the middle; at the front or at the back only
+fn blocks(length: usize) -> Vec<(usize, usize)> {
+    let (quarter, half) = (length / 4, length / 2);
+    let less_one = length.saturating_sub(1);
+    let mut blocks = vec![
+        (0, length),
+        (1, less_one),
+        (quarter, length - quarter),
+        (half, half + 1),
+        (0, half),
+        (0, 1),
+        (less_one, length),
+    ];
+    blocks.retain(|(from, to)| from < to && *to <= length);
+    blocks.sort_unstable();
+    blocks.dedup();
+    blocks
+}
+
+// the pending jobs are due some ticks after the shortest D, the new one too: by its D or by its
+// tick, by activate or by chain; then the list is emptied
+fn insertions(dues: &[u64], new: u64) -> Vec<Vec<u8>> {
+    use Call::{Activate, Chain, Terminate, Tick};
+    // the shorter D has the higher priority; of equal ones the new job's line
+    let due = |ticks: u64, more: u8| line(100 + ticks, 250 - 3 * ticks as u8 + more, 1);
+    let with = |last: &[Line]| {
+        let pending = dues.iter().zip([0, 1].into_iter().cycle());
+        let lines: Vec<Line> = pending.map(|(ticks, more)| due(*ticks, more)).collect();
+        [&lines, last].concat()
+    };
+    let count = dues.len() as u8;
+    let by_d = with(&[due(new, 2)]);
+    let by_tick = with(&[due(0, 2)]);
+    let first = [(0, Activate(count))];
+    let rising: Vec<(u64, Call)> = (0..count).map(|task| (0, Activate(task))).collect();
+    // where no two are due together, all are released
+    let falling: Vec<(u64, Call)> = rising.iter().rev().copied().collect();
+    let ended = vec![(0, Terminate); dues.len() + 1];
+    // all are late, in list order
+    let late = [&[(200, Tick)], &ended[..]].concat();
+    let of = |lines: &[Line], parts: &[&[(u64, Call)]]| tape(lines, &parts.concat());
+    let mut all = vec![
+        of(&by_d, &[&rising, &[(0, Activate(count))], &ended]),
+        of(&by_tick, &[&falling, &[(new, Activate(count))], &late]),
+        of(&by_tick, &[&first, &rising, &[(new, Chain(count))], &ended]),
+        of(&by_tick, &[&falling, &first, &[(new, Chain(count))], &late]),
+    ];
+    // one line more: the job that ends is another task's
+    if by_d.len() < MOST {
+        let lines = with(&[due(0, 2), due(new, 2)]);
+        let chain = [(0, Chain(count + 1))];
+        all.push(of(&lines, &[&rising, &first, &chain, &ended]));
     }
     all
 }

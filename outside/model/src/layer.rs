@@ -1,4 +1,4 @@
-//! Document 01, "Ticks and jobs" and "What a call returns", and document 02, Q-2: the scheduler layer.
+//! Document 01, "Ticks and jobs" and "What a call returns", and document 02, Q-2 and Q-3: the scheduler layer.
 
 use crate::table::{Line, MOST};
 
@@ -39,12 +39,20 @@ pub struct Counts {
     pub response: u64,
 }
 
-/// What a call returns; the running job is the kernel's to name.
+/// How a new job went into the list: its place, and how many places were read to find it.
+#[derive(Clone, Copy, Debug, PartialEq, Eq)]
+pub struct Inserted {
+    pub place: usize,
+    pub looked: usize,
+}
+
+/// What a call returns, and how its new job went in; the running job is the kernel's to name.
 #[derive(Clone, Debug, PartialEq, Eq)]
 pub struct Answer {
     pub result: u8,
     pub kernel_call: Option<KernelCall>,
     pub late: Vec<u8>,
+    pub inserted: Option<Inserted>,
 }
 
 pub struct Layer {
@@ -87,27 +95,32 @@ impl Layer {
                 result,
                 kernel_call: None,
                 late: Vec::new(),
+                inserted: None,
             };
         }
         let late = self.report(tick);
         self.tick = tick;
-        let kernel_call = match call {
-            Call::Tick => None,
-            Call::Activate(task) => self.activate(task),
+        let (inserted, kernel_call) = match call {
+            Call::Tick => (None, None),
+            Call::Activate(task) => {
+                let inserted = self.insert(task);
+                (Some(inserted), self.release_if_first(inserted))
+            }
             Call::Terminate => {
                 self.end_first();
-                Some(self.release_next())
+                (None, Some(self.release_next()))
             }
             Call::Chain(task) => {
                 self.end_first();
-                self.insert(task);
-                Some(self.release_next())
+                let inserted = self.insert(task);
+                (Some(inserted), Some(self.release_next()))
             }
         };
         Answer {
             result,
             kernel_call,
             late,
+            inserted,
         }
     }
 
@@ -157,32 +170,41 @@ impl Layer {
         late
     }
 
-    // insert; if the new job is first, release it
-    fn activate(&mut self, task: u8) -> Option<KernelCall> {
-        if self.insert(task) == 0 {
-            self.list[0].released = true;
-            Some(KernelCall::ActivateTask(task))
-        } else {
-            None
-        }
-    }
-
-    // a new job goes behind all jobs with the same deadline
-    fn insert(&mut self, task: u8) -> usize {
+    // from the back: a new job is put at the end and walks in past each job that it is due before,
+    // so it goes behind all jobs with the same deadline
+    fn insert(&mut self, task: u8) -> Inserted {
         let nth = self.accepted[usize::from(task)];
         self.accepted[usize::from(task)] += 1;
         let due = self.tick + self.lines[usize::from(task)].d;
-        let place = self.list.iter().take_while(|job| job.due <= due).count();
-        let job = Job {
+        let mut place = self.list.len();
+        self.list.push(Job {
             task,
             nth,
             due,
             activated: self.tick,
             released: false,
             reported: false,
-        };
-        self.list.insert(place, job);
-        place
+        });
+        let mut looked = 0;
+        while place > 0 {
+            looked += 1;
+            if self.list[place - 1].due <= due {
+                break;
+            }
+            self.list.swap(place - 1, place);
+            place -= 1;
+        }
+        Inserted { place, looked }
+    }
+
+    // if the new job is first, release it by ActivateTask; otherwise no kernel call
+    fn release_if_first(&mut self, inserted: Inserted) -> Option<KernelCall> {
+        if inserted.place > 0 {
+            return None;
+        }
+        let job = self.list.first_mut()?;
+        job.released = true;
+        Some(KernelCall::ActivateTask(job.task))
     }
 
     // the running job leaves the list

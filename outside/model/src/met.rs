@@ -18,6 +18,10 @@ pub struct Met {
     pub table_refusals: [u64; 6],
     /// A, C, T, none
     pub kernel_calls: [u64; 4],
+    /// where new jobs went: alone, last, first, between
+    pub insertions: [u64; 4],
+    /// the most places that one insertion read
+    pub most_looked: u64,
     pub late: u64,
     /// late jobs by the tick of their report: the deadline, a later one
     pub reports: [u64; 2],
@@ -47,6 +51,15 @@ impl Met {
             Some(KernelCall::TerminateTask) => 2,
             None => 3,
         }] += 1;
+        if let Some(inserted) = answer.inserted {
+            self.insertions[match (inserted.place, layer.list().len()) {
+                (0, 1) => 0,
+                (place, length) if place + 1 == length => 1,
+                (0, _) => 2,
+                _ => 3,
+            }] += 1;
+            self.most_looked = self.most_looked.max(inserted.looked as u64);
+        }
         self.late += answer.late.len() as u64;
         self.most_late = self.most_late.max(answer.late.len() as u64);
         self.deepest = self.deepest.max(kernel.released() as u64);
@@ -87,12 +100,14 @@ impl Met {
         add_each(&mut self.tape_refusals, &other.tape_refusals);
         add_each(&mut self.table_refusals, &other.table_refusals);
         add_each(&mut self.kernel_calls, &other.kernel_calls);
+        add_each(&mut self.insertions, &other.insertions);
         add_each(&mut self.reports, &other.reports);
         add_each(&mut self.same_due, &other.same_due);
         add_each(&mut self.reasons, &other.reasons);
         self.late += other.late;
         self.late_at_greatest += other.late_at_greatest;
         self.most_late = self.most_late.max(other.most_late);
+        self.most_looked = self.most_looked.max(other.most_looked);
         self.deepest = self.deepest.max(other.deepest);
         self.fullest = self.fullest.max(other.fullest);
         self.written += other.written;
@@ -143,6 +158,15 @@ impl fmt::Display for Met {
         let [a, c, t, none] = self.kernel_calls;
         let kernel_calls = [("A", a), ("C", c), ("T", t), ("none", none)];
         row(f, "kernel calls", &kernel_calls)?;
+        let [alone, last, first, between] = self.insertions;
+        let insertions = [
+            ("alone", alone),
+            ("last", last),
+            ("first", first),
+            ("between", between),
+            ("most places read by one", self.most_looked),
+        ];
+        row(f, "insertions", &insertions)?;
         let [on_deadline, later] = self.reports;
         let late = [
             ("reported", self.late),

@@ -2,8 +2,9 @@
 
 use crate::history::History;
 use crate::kernel::Kernel;
-use crate::layer::{Answer, Call, KernelCall, Layer};
+use crate::layer::{Answer, Call, Job, KernelCall, Layer};
 use crate::met::Met;
+use crate::place;
 use crate::plain::Plain;
 use crate::table::{check, Line, MOST};
 use crate::tape::{read_count, read_lines, read_record, write_record, write_table, Read};
@@ -19,7 +20,8 @@ pub struct Ran {
     pub met: Met,
 }
 
-/// Runs a tape; an error where layer, kernel, plain scheduler or history part.
+/// Runs a tape; an error where layer, kernel, plain scheduler or history part, or a new job's places
+/// from the back and from the front.
 pub fn run(bytes: &[u8]) -> Result<Ran, String> {
     let mut met = Met::default();
     let [tape_run, tape_why] = print(bytes, &mut met)?.map(String::into_bytes);
@@ -205,6 +207,7 @@ impl Heads {
     /// The line of a call.
     pub fn call(&mut self, tick: u64, call: Call, met: &mut Met) -> Result<String, String> {
         let ran = self.kernel.running();
+        let before = self.layer.list().to_vec();
         let answer = self.layer.call(tick, call);
         if let Some(kernel_call) = answer.kernel_call {
             self.kernel.serve(kernel_call)?;
@@ -216,6 +219,8 @@ impl Heads {
                 answer.result
             ));
         }
+        self.same_place(&before, tick, call, &answer)
+            .map_err(|text| format!("after {call:?} at tick {tick} {text}"))?;
         if answer.result == 0 {
             self.history.accepted(tick);
             self.late.push(answer.late.clone());
@@ -234,6 +239,31 @@ impl Heads {
         self.whys((0..=count).chain([u8::MAX]))
             .map_err(|text| format!("after {call:?} at tick {tick} {text}"))?;
         Ok(line(tick, &answer, running))
+    }
+
+    // exactly an accepted activate or chain inserts: into the list before it, for chain without its first
+    fn same_place(
+        &self,
+        before: &[Job],
+        tick: u64,
+        call: Call,
+        answer: &Answer,
+    ) -> Result<(), String> {
+        let expected = match call {
+            Call::Activate(task) if answer.result == 0 => Some((task, before)),
+            Call::Chain(task) if answer.result == 0 => {
+                Some((task, before.get(1..).unwrap_or_default()))
+            }
+            _ => None,
+        };
+        match (expected, answer.inserted) {
+            (Some((task, list)), Some(inserted)) => {
+                let due = tick + self.lines[usize::from(task)].d;
+                place::same_place(list, due, inserted)
+            }
+            (None, None) => Ok(()),
+            (_, inserted) => Err(format!("the layer has inserted {inserted:?}")),
+        }
     }
 
     // kernel, plain scheduler and layer name the same job: task, deadline, which activation

@@ -55,6 +55,7 @@ fn ones_and_one_line() {
 fn fill_and_drain() {
     let met = valid(Family::Fill, 100);
     assert!(met.fullest == 32 && met.most_late == 32);
+    assert!(met.insertions.iter().all(|count| *count > 100) && met.most_looked == 31);
     assert!(met.results[2] > 20 && met.results[4] > 100);
     assert!(met.reasons.iter().all(|count| *count > 5));
 }
@@ -160,6 +161,7 @@ fn edges() {
     }
     assert!(met.reasons.iter().all(|count| *count > 300));
     assert!(met.reports.iter().all(|count| *count > 200) && met.late_at_greatest > 50);
+    assert!(met.insertions.iter().all(|count| *count > 500) && met.most_looked == 31);
 }
 
 #[test]

@@ -1,14 +1,16 @@
 -- `jobs::entered` meets its contract. Assumes nothing.
-use Prim.Native.Nat.{_≤_, _<_}
+use Prim.Native.Nat.{_-_, _≤_, _<_}
 use mathlib.Core.Path.{_≡_, refl, sym, ap, _∙_}
+use mathlib.Core.Bool.{true}
 use mathlib.Core.Logic.{⊎-elim}
 use native.Mathlib.Omega.{arith}
 use borrow.Author.Needs.{needs}
-use lib.ListN.{length, length-set}
+use lib.ListN.{length, take, getD, length-set}
 use borrow.Author.Tests.{not-true, not-false}
 use Rattle.rules.specs.Words.{places}
-use Rattle.jobs.specs.Inside.{behind}
-use Rattle.jobs.proofs.Shifts.{Entering, enter-start, enter-turn, enter-halt, enter-end, behind-none}
+use Rattle.rules.specs.Search.{fromBack}
+use Rattle.jobs.specs.Listed.{blankJob, goesBefore}
+use Rattle.jobs.proofs.Shifts.{Entering, enter-start, enter-turn, enter-halt, enter-end}
 use Rattle.jobs.proofs.entered.Statement.{statement}
 use Rattle.jobs.proofs.entered.Tie as tie
 
@@ -21,7 +23,7 @@ abbrev μ-loop : tie.MeasureT-loop
 loop-holds : tie.Need-loop-holds Inv-loop μ-loop
 loop-holds c =
     let a = c .before .args in
-    (omega arith, c .before .pre, search needs, search needs, (refl, enter-start (a .jobs) (a .aim .many), refl))
+    (omega arith, c .before .pre .0, search needs, search needs, (refl, enter-start (a .jobs) (a .aim .many), refl))
 
 sub-other : tie.Need-sub-other Inv-loop μ-loop
 sub-other c = search needs
@@ -53,7 +55,7 @@ loop-again c =
     let l = c .before .before .before .before .loop in
     let t : 0 < l .i = c .before .before .before .loop-test .taken in
     let e : length (l .out) ≡ length (b .args .jobs) = l .inv .3 ∙ sym (l .inv .2) in
-    let g = sym (c .before .goes-before .ensures) ∙ not-false _ (c .if1 .left) in (
+    let g : goesBefore (b .args .aim .put) (getD (l .out) (l .i - 1) blankJob) ≡ true = sym (c .before .goes-before .ensures) ∙ not-false _ (c .if1 .left) in (
       omega (arith, l .inv .0),
       l .inv .1,
       l .inv .2,
@@ -72,11 +74,13 @@ returns c =
     let b = c .before .before .before in
     let l = c .before .loop in
     let j = b .args .aim .put in
-    enter-end (b .args .jobs) (l .out) j (b .args .aim .many) (l .i) (omega (arith, l .inv .0, l .inv .1, l .inv .3)) (l .inv .4)
+    let xs = b .args .jobs in
+    let n = b .args .aim .many in
+    enter-end xs (l .out) j n (l .i) (omega (arith, l .inv .0, l .inv .1, l .inv .3)) (l .inv .0) (b .pre .1) (l .inv .4)
     (⊎-elim
-    {C = l .i ≡ behind (b .args .aim .many) j (b .args .jobs)}
-    (λ w. let z : l .i ≡ 0 = omega (arith, w .left) in z ∙ sym (behind-none j (b .args .jobs)) ∙ ap (λ k. behind k j (b .args .jobs)) (sym z) ∙ l .inv .4 .2)
-    (λ w. enter-halt (b .args .jobs) (l .out) j (b .args .aim .many) (l .i) (w .0 .taken) (sym (w .2 .ensures) ∙ not-true _ (w .3 .taken)) (l .inv .4))
+    {C = l .i ≡ fromBack goesBefore j (take n xs)}
+    (λ w. let z : l .i ≡ 0 = omega (arith, w .left) in z ∙ ap (λ k. fromBack goesBefore j (take k xs)) (sym z) ∙ l .inv .4 .2)
+    (λ w. enter-halt xs (l .out) j n (l .i) (w .0 .taken) (l .inv .0) (omega (arith, l .inv .1, l .inv .2)) (sym (w .2 .ensures) ∙ not-true _ (w .3 .taken)) (l .inv .4))
     (c .loop-test .came))
 
 pub entered-spec : {M : Type 1} → statement M

@@ -178,6 +178,25 @@ impl Drawn {
         }
     }
 
+    // the running job's task again and again, due around a pending job; some jobs end between
+    fn chains(&mut self, random: &mut Random) {
+        let ended = random.pick(&[2, 4, 100]);
+        for _ in 0..random.from_to(1, 16) {
+            if random.one_in(ended) {
+                self.put(0, Call::Terminate);
+            }
+            let jobs = self.plain.jobs();
+            let task = match self.plain.running() {
+                Some(job) => job.task,
+                None => return,
+            };
+            let due = jobs[random.place(jobs.len())].due;
+            let made = due.saturating_sub(self.lines[usize::from(task)].d);
+            let ticks = self.around(made, random);
+            self.put(ticks, Call::Chain(task));
+        }
+    }
+
     fn any(&mut self, habit: &Habit, random: &mut Random) {
         if random.one_in(habit.aimed) && self.aimed(random) {
             return;
@@ -209,7 +228,8 @@ pub fn mixed(lines: Vec<Line>, random: &mut Random) -> Vec<u8> {
     tape.bytes
 }
 
-// burst until all limits are reached, and past that; then drain, and past that; some end before all is drained
+// burst until all limits are reached, and past that, some with chains into the long list; then drain,
+// and past that; some end before all is drained
 pub fn fill(mut lines: Vec<Line>, random: &mut Random) -> Vec<u8> {
     // the sum of limits is 32 mostly
     if !random.one_in(4) {
@@ -219,6 +239,9 @@ pub fn fill(mut lines: Vec<Line>, random: &mut Random) -> Vec<u8> {
     let rounds = random.from_to(1, 3);
     for round in 1..=rounds {
         tape.burst(random);
+        if random.one_in(2) {
+            tape.chains(random);
+        }
         for _ in 0..random.below(5) {
             let task = tape.task(9, random);
             let ticks = tape.ticks(14, random);
