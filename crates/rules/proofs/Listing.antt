@@ -8,7 +8,7 @@ use Rattle.rules.specs.declared.Call.{Call}
 use Rattle.rules.specs.declared.Call.the-variants.{Wait, Activate, Terminate, Chain}
 use Rattle.rules.specs.Words.{unless, insertBy, Pairs}
 use Rattle.rules.specs.Table.{Table}
-use Rattle.rules.specs.Jobs.{Job, Pending, bare, Before, before}
+use Rattle.rules.specs.Jobs.{Job, Pending, bare, Before, before, InOrder}
 use Rattle.rules.specs.Calls.{tickOf}
 use Rattle.rules.specs.Layer.{Board, fresh, running, without, marked, done, result, next}
 use Rattle.rules.specs.Run.{run}
@@ -45,16 +45,12 @@ list-holds T calls =
 -- ---- what each call does to it
 
 module _ (T : Table) where
-  -- none goes before one that stands in front of it
-  abbrev Sorted : List Pending → Type 0
-  Sorted p = Pairs (λ (j k : Pending). Before T k j → ⊥) p
-
-  sorted : (l : List Job) → Ordered T Other l → Sorted (map bare l)
+  sorted : (l : List Job) → Ordered T Other l → InOrder T (map bare l)
   sorted l o =
       pairs-over (λ j k. Ahead T Other (bare j) k) (λ (j k : Pending). Before T k j → ⊥) bare (λ j k a. before-false T (bare k) (bare j) (a .order)) l o
 
   -- a new job goes in front of the first job that it goes before, and so before all behind that one
-  inserts : (j : Pending) (l : List Pending) → Sorted l → Inserted T j l (insertBy (before T) j l)
+  inserts : (j : Pending) (l : List Pending) → InOrder T l → Inserted T j l (insertBy (before T) j l)
   inserts j [] o = record { front = []; back = []; was = refl; is = refl; behind = tt; ahead = tt }
   inserts j (k ∷ l) o = go (before T j k) refl (inserts j l (o .1))
     where
@@ -86,3 +82,6 @@ module _ (T : Table) where
 pub list-moves : ListMoves
 list-moves T calls e z =
     subst⁻¹ (ListAfter T (run T fresh calls) e) (next-list T (run T fresh calls) e z) (after-is T (run T fresh calls) (fresh-good T Other (others T) calls) e)
+
+pub list-in-order : (T : Table) (calls : List Call) → InOrder T (map bare ((run T fresh calls) .jobs))
+list-in-order T calls = sorted T ((run T fresh calls) .jobs) ((fresh-good T Other (others T) calls) .lined .ordered)

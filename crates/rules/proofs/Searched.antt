@@ -7,13 +7,13 @@ use lib.ListN.{length, take, drop, length-append, length-reverse}
 use native.Mathlib.Omega.{arith}
 use Rattle.rules.specs.Words.{insertBy, All, Pairs}
 use Rattle.rules.specs.Table.{Table}
-use Rattle.rules.specs.Jobs.{Job, Pending, bare, Before, before}
+use Rattle.rules.specs.Jobs.{Pending, bare, before, InOrder}
 use Rattle.rules.specs.Layer.{fresh}
 use Rattle.rules.specs.Run.{run}
 use Rattle.rules.specs.Search.{fromFront, backwards, fromBack, readsOf, FoundFromBack, PlaceFromBack, ListFromBack}
-use Rattle.rules.proofs.Lists.{all-map, all-append, pairs-over}
+use Rattle.rules.proofs.Lists.{all-map, all-append}
 use Rattle.rules.proofs.Order.{not-before, through}
-use Rattle.rules.proofs.Listing.{list-holds}
+use Rattle.rules.proofs.Listing.{list-in-order}
 
 -- ---- for any elements
 
@@ -22,8 +22,8 @@ abbrev pub Orders {ℓ} : {A : Type ℓ} → (A → A → Bool) → Type ℓ
 Orders {A = A} goes = (a b c : A) → goes a b ≡ true → goes c b ≡ false → goes a c ≡ true
 
 -- none goes before one that stands in front of it
-abbrev pub InOrder {ℓ} : {A : Type ℓ} → (A → A → Bool) → List A → Type 0
-InOrder {A = A} goes l = Pairs (λ (x y : A). goes y x ≡ false) l
+abbrev pub SortedBy {ℓ} : {A : Type ℓ} → (A → A → Bool) → List A → Type 0
+SortedBy {A = A} goes l = Pairs (λ (x y : A). goes y x ≡ false) l
 
 module _ {A : Type 0} (goes : A → A → Bool) where
   -- the last element of a list is read first
@@ -50,7 +50,7 @@ module _ {A : Type 0} (goes : A → A → Bool) where
   all-reverse P [] h = tt
   all-reverse P (b ∷ l) h = rw (reverse-cons b l) (all-append P (reverse l) (b ∷ []) (all-reverse P l (h .1)) (h .0, tt))
 
-  pub same-place : Orders goes → (a : A) (l : List A) → InOrder goes l → fromBack goes a l ≡ fromFront goes a l
+  pub same-place : Orders goes → (a : A) (l : List A) → SortedBy goes l → fromBack goes a l ≡ fromFront goes a l
   same-place orders a [] o = refl
   same-place orders a (b ∷ l) o = go (goes a b) refl (same-place orders a l (o .1))
     where
@@ -85,7 +85,7 @@ module _ {A : Type 0} (goes : A → A → Bool) where
       go true ih h = omega arith
       go false ih h = omega arith
 
-  found : Orders goes → (a : A) (l : List A) → InOrder goes l → FoundFromBack goes a l
+  found : Orders goes → (a : A) (l : List A) → SortedBy goes l → FoundFromBack goes a l
   found orders a l o =
       let e : fromBack goes a l ≡ fromFront goes a l = same-place orders a l o in
       record {
@@ -96,7 +96,7 @@ module _ {A : Type 0} (goes : A → A → Bool) where
 
 -- ---- for the list
 
-tested : (T : Table) (l : List Pending) → Pairs (λ (k m : Pending). Before T m k → ⊥) l → InOrder (before T) l
+tested : (T : Table) (l : List Pending) → InOrder T l → SortedBy (before T) l
 tested T [] o = tt
 tested T (k ∷ l) o = (all-map (λ m d. not-before T m k d) l (o .0), tested T l (o .1))
 
@@ -104,7 +104,4 @@ pub place-from-back : PlaceFromBack
 place-from-back T j l o = found (before T) (through T) j l (tested T l o)
 
 pub list-from-back : ListFromBack
-list-from-back T calls j =
-    let l = (run T fresh calls) .jobs in
-    let o = pairs-over (λ (j k : Job). Before T (bare k) (bare j) → ⊥) (λ (k m : Pending). Before T m k → ⊥) bare (λ k m d. d) l ((list-holds T calls) .ordered) in
-    place-from-back T j (map bare l) o
+list-from-back T calls j = place-from-back T j (map bare ((run T fresh calls) .jobs)) (list-in-order T calls)

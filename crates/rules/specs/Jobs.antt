@@ -1,10 +1,12 @@
 -- Document 01, "Ticks and jobs": a job, and the order of the list. Assumes nothing.
 use Prim.Native.Nat.{ℕ, _<_}
 use mathlib.Core.Bool.{Bool, false}
+use mathlib.Core.List.{List}
 use lib.Dec.{ltb}
 use Rattle.rules.specs.declared.Tick.{Tick}
 use Rattle.rules.specs.declared.Phase.{Phase}
 use Rattle.rules.specs.declared.Phase.the-variants.{Released}
+use Rattle.rules.specs.Words.{Pairs}
 use Rattle.rules.specs.Table.{Table, plus, deadlineOf}
 
 -- a pending job: its task, when it was activated, and when it is due
@@ -51,3 +53,7 @@ Before T j k = key T j < key T k
 -- its test
 unfoldable pub before : Table → Pending → Pending → Bool
 before T j k = ltb (key T j) (key T k)
+
+-- a list in order: no job goes before one that stands in front of it
+abbrev pub InOrder : Table → List Pending → Type 0
+InOrder T l = Pairs (λ (j k : Pending). Before T k j → ⊥) l

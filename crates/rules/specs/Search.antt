@@ -5,9 +5,9 @@ use mathlib.Core.Bool.{Bool, cond}
 use mathlib.Core.List.{List, [], _∷_, _++_, map, reverse}
 use lib.ListN.{length, take, drop}
 use Rattle.rules.specs.declared.Call.{Call}
-use Rattle.rules.specs.Words.{insertBy, Pairs}
+use Rattle.rules.specs.Words.{insertBy}
 use Rattle.rules.specs.Table.{Table}
-use Rattle.rules.specs.Jobs.{Pending, bare, Before, before}
+use Rattle.rules.specs.Jobs.{Pending, bare, before, InOrder}
 use Rattle.rules.specs.Layer.{fresh}
 use Rattle.rules.specs.Run.{run}
 
@@ -44,7 +44,7 @@ pub record FoundFromBack {A : Type 0} (goes : A → A → Bool) (a : A) (l : Lis
 
 -- so it is in every list that is in order
 abbrev pub PlaceFromBack : Type 0
-PlaceFromBack = (T : Table) (j : Pending) (l : List Pending) → Pairs (λ (k m : Pending). Before T m k → ⊥) l → FoundFromBack (before T) j l
+PlaceFromBack = (T : Table) (j : Pending) (l : List Pending) → InOrder T l → FoundFromBack (before T) j l
 
 -- and the layer's list is, after any sequence of calls
 abbrev pub ListFromBack : Type 0
