@@ -222,9 +222,9 @@ module _ {L B R : Data} (c : Reader L B R) where
       abbrev Post : Val → SProp 𝓤
       Post = (walk_of 𝓛 ended stayed (clauses 𝓤)).post (((κ, tt), (q, tt), tt, (x, tt), (v ∷ [], tt)), tt)
 
-      exits : (r : R.type.D) (u : Val) → c.Says ys r → ent 𝓤 (⋆ 𝓛 (‵ ((row R).own r (u ∷ [])) ∷ ‵ (flft κ q) ∷ ‵ Own ∷ [])) (Post u)
+      exits : (r : R.type.D) (u : Val) → c.Says ys r → ent 𝓤 (⋆ 𝓛 (‵ ((row R).own_val r (u ∷ [])) ∷ ‵ (flft κ q) ∷ ‵ Own ∷ [])) (Post u)
       exits r u e =
-          qed 𝓛 (‵ ((row R).own r (u ∷ [])) ∷ ‵ (flft κ q) ∷ ‵ Own ∷ []) ∵
+          qed 𝓛 (‵ ((row R).own_val r (u ∷ [])) ∷ ‵ (flft κ q) ∷ ‵ Own ∷ []) ∵
           suffices ! _ (ends_at 𝓛 ended stayed (clauses 𝓤) (((κ, tt), (q, tt), tt, (x, tt), (v ∷ [], tt)), tt) u r (tt, tt) (tt, tt)) $ says ! e $
           nothing ! $ move ! (2 ∷ 0 ∷ []) $ join ! $ frame ! $ nothing ! $ move ! (2 ∷ 0 ∷ []) $ fjoin ! $ frame ! $ done !
 
@@ -283,7 +283,7 @@ module _ {L B R : Data} (c : Reader L B R) where
               -- `push`
               use0 𝓛 (raw ((Push 𝓛).pre (to_push a.t line))) (goes_push a.t line a.is g) $
               calls_at ! (fm_of 𝓤 H 𝓛.laws 𝓣) (Push 𝓛) known-push (to_push a.t line) (and_then ! (load ! (from ! (stop !)) (look ! 17 refl)) (and_then ! (load ! (from ! (stop !)) (look ! 3 refl)) (no_more !))) (λ u.
-              use1 𝓛 (later (some (λ (r : B.type.D). (‵ ftrue ⊛ ‵ ((row B).own r (u ∷ []))) ⊛ raw (ensured 𝓛 push_ended (push_clauses 𝓤) tt (a.t, (line, tt)) tt r)))) (id⊢ 𝓤 _) $ await ! tt $ pick ! (λ r.
+              use1 𝓛 (later (some (λ (r : B.type.D). (‵ ftrue ⊛ ‵ ((row B).own_val r (u ∷ []))) ⊛ raw (ensured 𝓛 push_ended (push_clauses 𝓤) tt (a.t, (line, tt)) tt r)))) (id⊢ 𝓤 _) $ await ! tt $ pick ! (λ r.
               split ! $ move ! (1 ∷ []) $ use1 𝓛 (raw (fact 𝓤 (r ≡ c.put a.t line))) (push_said a.t line r) $ heard ! (r ≡ c.put a.t line) (λ e'. split ! $ drop ! $
               peeks ! (row B) (Is (row B)) (shows 𝓛 (row B)) r (u ∷ []) (λ is. land ! (from ! (stop !)) (store ! 17 refl ((LL.lawful B.type B.laws 𝓛).typed r _ is).0) $
               rewrite ! 17 (λ (us : List Val). ‵ (fat full_share (ty B) l₂ 0 (only us))) (LL.tells B.type B.laws r (u ∷ []) is) refl $ drop ! $
@@ -318,7 +318,7 @@ module _ {L B R : Data} (c : Reader L B R) where
               -- `finish`
               use0 𝓛 (raw ((Finish 𝓛).pre (to_finish a.t))) (goes_finish a.t a.is) $
               calls_at ! (fm_of 𝓤 H 𝓛.laws 𝓣) (Finish 𝓛) known-finish (to_finish a.t) (and_then ! (load ! (from ! (stop !)) (look ! 17 refl)) (no_more !)) (λ u.
-              use1 𝓛 (later (some (λ (r : R.type.D). (‵ ftrue ⊛ ‵ ((row R).own r (u ∷ []))) ⊛ raw (ensured 𝓛 finish_ended (finish_clauses 𝓤) tt (a.t, tt) tt r)))) (id⊢ 𝓤 _) $ await ! tt $ pick ! (λ r.
+              use1 𝓛 (later (some (λ (r : R.type.D). (‵ ftrue ⊛ ‵ ((row R).own_val r (u ∷ []))) ⊛ raw (ensured 𝓛 finish_ended (finish_clauses 𝓤) tt (a.t, tt) tt r)))) (id⊢ 𝓤 _) $ await ! tt $ pick ! (λ r.
               split ! $ move ! (1 ∷ []) $ use1 𝓛 (raw (fact 𝓤 (c.Gives a.t r))) (finish_said a.t r) $ heard ! (c.Gives a.t r) (λ e'. split ! $ drop ! $
               peeks ! (row R) (Is (row R)) (shows 𝓛 (row R)) r (u ∷ []) (λ is. land ! (from ! (stop !)) (init ! 21 refl ((LL.lawful R.type R.laws 𝓛).typed r _ is).0) $
               returns ! (look ! 21 refl) $ forget ! 9 refl $ forget ! 13 refl $ forget ! 15 refl $ forget ! 17 refl $ forget ! 19 refl $ forget ! 21 refl $
@@ -343,7 +343,7 @@ module _ {L B R : Data} (c : Reader L B R) where
             assigns ! (of_opd ! (load ! (from ! (fld ! refl (stop !))) (look_in ! 16 (sub ! 1 refl (whole !))))) (from ! (stop !)) (init ! 8 refl (tt, record { fits = room.0 })) $
             use0 𝓛 (raw ((Begin 𝓛).pre (to_begin (length ys)))) (goes_begin (length ys) room.0) $
             calls_at ! (fm_of 𝓤 H 𝓛.laws 𝓣) (Begin 𝓛) known-begin (to_begin (length ys)) (and_then ! (load ! (from ! (stop !)) (look ! 9 refl)) (no_more !)) (λ u.
-            use1 𝓛 (later (some (λ (r : B.type.D). (‵ ftrue ⊛ ‵ ((row B).own r (u ∷ []))) ⊛ raw (ensured 𝓛 begin_ended (begin_clauses 𝓤) tt (length ys, tt) tt r)))) (id⊢ 𝓤 _) $ await ! tt $ pick ! (λ r.
+            use1 𝓛 (later (some (λ (r : B.type.D). (‵ ftrue ⊛ ‵ ((row B).own_val r (u ∷ []))) ⊛ raw (ensured 𝓛 begin_ended (begin_clauses 𝓤) tt (length ys, tt) tt r)))) (id⊢ 𝓤 _) $ await ! tt $ pick ! (λ r.
             split ! $ move ! (1 ∷ []) $ use1 𝓛 (raw (fact 𝓤 (r ≡ c.start (length ys)))) (begin_said (length ys) r) $ heard ! (r ≡ c.start (length ys)) (λ e. split ! $ drop ! $
             peeks ! (row B) (Is (row B)) (shows 𝓛 (row B)) r (u ∷ []) (λ is. land ! (from ! (stop !)) (init ! 15 refl ((LL.lawful B.type B.laws 𝓛).typed r _ is).0) $
             rewrite ! 15 (λ (us : List Val). ‵ (fat full_share (ty B) l₂ 0 (only us))) (LL.tells B.type B.laws r (u ∷ []) is) refl $ drop ! $

@@ -143,9 +143,9 @@ module _ {L C : Data} {R : Result} (d : Relay L C R) where
       abbrev Held : Fml
       Held = (MutSlice (named 1) κ' u8).own_val buf (v' ∷ [])
 
-      goes_put : (c : C.type.D) (u : Val) → ent 𝓤 (⋆ 𝓛 (‵ (flft κ' q') ∷ ‵ ((row C).own c (u ∷ [])) ∷ ‵ Held ∷ [])) ((Put 𝓛).pre (to_put c u))
+      goes_put : (c : C.type.D) (u : Val) → ent 𝓤 (⋆ 𝓛 (‵ (flft κ' q') ∷ ‵ ((row C).own_val c (u ∷ [])) ∷ ‵ Held ∷ [])) ((Put 𝓛).pre (to_put c u))
       goes_put c u =
-          qed 𝓛 (‵ (flft κ' q') ∷ ‵ ((row C).own c (u ∷ [])) ∷ ‵ Held ∷ []) ∵ nothing ! $ move ! (3 ∷ 0 ∷ []) $ fjoin ! $ move ! (2 ∷ 0 ∷ []) $ fjoin ! $
+          qed 𝓛 (‵ (flft κ' q') ∷ ‵ ((row C).own_val c (u ∷ [])) ∷ ‵ Held ∷ []) ∵ nothing ! $ move ! (3 ∷ 0 ∷ []) $ fjoin ! $ move ! (2 ∷ 0 ∷ []) $ fjoin ! $
           nothing ! $ move ! (2 ∷ 0 ∷ []) $ join ! $ join ! $ frame ! $ done !
 
       exits : (r : R.row.Denot) (w : Val) (new : List ℕ) → d.Says ys old r new → length new ≡ length old
@@ -166,7 +166,7 @@ module _ {L C : Data} {R : Result} (d : Relay L C R) where
             -- [the lines' token; the buffer's token; true; the buffer; true; the lines; the locals, the last first]
             move ! (0 ∷ 5 ∷ []) $ use2 𝓛 (raw ((Copy 𝓛).pre to_copy)) goes_copy $
             calls_at ! (fm_of 𝓤 H 𝓛.laws 𝓣) (Copy 𝓛) known-copy to_copy (and_then ! (load ! (from ! (stop !)) (look ! 13 refl)) (no_more !)) (λ u.
-            use1 𝓛 (later (some (λ (c : C.type.D). ((‵ (flft κ q) ⊛ ‵ ftrue) ⊛ ‵ ((row C).own c (u ∷ []))) ⊛ raw (ensured 𝓛 copy_ended (copy_clauses 𝓤) (κ, tt) (lines, tt) tt c)))) (id⊢ 𝓤 _) $ await ! tt $ pick ! (λ c.
+            use1 𝓛 (later (some (λ (c : C.type.D). ((‵ (flft κ q) ⊛ ‵ ftrue) ⊛ ‵ ((row C).own_val c (u ∷ []))) ⊛ raw (ensured 𝓛 copy_ended (copy_clauses 𝓤) (κ, tt) (lines, tt) tt c)))) (id⊢ 𝓤 _) $ await ! tt $ pick ! (λ c.
             split ! $ move ! (1 ∷ []) $ use1 𝓛 (raw (fact 𝓤 (d.Copies ys c))) (copy_said c) $ heard ! (d.Copies ys c) (λ copies. split ! $ split ! $ move ! (2 ∷ []) $
             -- [the copy; the lines' token; true; the buffer's token; true; the buffer; true; the locals]
             peeks ! (row C) (Is (row C)) (shows 𝓛 (row C)) c (u ∷ []) (λ is.

@@ -127,12 +127,12 @@ module _ {S P : Data} {N : Pair S P} {A₁ A₂ : Arg} (c : Call N A₁ A₂) wh
             assigns ! (of_opd ! (load ! (from ! (hop ! (look ! 14 refl) (stop !))) (look_raw ! 0 refl))) (from ! (stop !)) (init ! 6 refl ((LL.lawful S.type S.laws 𝓛).typed h _ was).0) $
             use0 𝓛 (raw ((Step 𝓛).pre to_step)) (goes_step was) $
             calls_at ! (fm_of 𝓤 H 𝓛.laws 𝓣) (Step 𝓛) known to_step (and_then ! (load ! (from ! (stop !)) (look ! 7 refl)) (and_then ! (load ! (from ! (stop !)) (look ! 13 refl)) (and_then ! (load ! (from ! (stop !)) (look ! 11 refl)) (no_more !)))) (λ v.
-            use1 𝓛 (later (some (λ (r : N.D). (‵ ftrue ⊛ ‵ ((pair_row N).own r (v ∷ []))) ⊛ raw (ensured 𝓛 step_ended (step_clauses 𝓤) tt (h, (x₁, (x₂, tt))) tt r)))) (id⊢ 𝓤 _) $ await ! tt $ pick ! (λ r.
+            use1 𝓛 (later (some (λ (r : N.D). (‵ ftrue ⊛ ‵ ((pair_row N).own_val r (v ∷ []))) ⊛ raw (ensured 𝓛 step_ended (step_clauses 𝓤) tt (h, (x₁, (x₂, tt))) tt r)))) (id⊢ 𝓤 _) $ await ! tt $ pick ! (λ r.
             split ! $ move ! (1 ∷ []) $ use1 𝓛 (raw (fact 𝓤 (c.Gives h x₁ x₂ r))) (step_said r) $ heard ! (c.Gives h x₁ x₂ r) (λ e. split ! $ drop ! $
             peeks ! (pair_row N) (Is (pair_row N)) (shows 𝓛 (pair_row N)) r (v ∷ []) (λ is₀.
             land ! (from ! (stop !)) (init ! 9 refl ((LL.lawful (pair N) (pair_laws N) 𝓛).typed r _ is₀).0) $
             rewrite ! 9 (λ (us : List Val). ‵ (fat full_share (pair_ty N) l₄ 0 (only us))) (LL.tells (pair N) (pair_laws N) r (v ∷ []) is₀) refl $
-            rewrite ! 0 (λ (us : List Val). ‵ ((pair_row N).own r us)) (LL.tells (pair N) (pair_laws N) r (v ∷ []) is₀) refl $
+            rewrite ! 0 (λ (us : List Val). ‵ ((pair_row N).own_val r us)) (LL.tells (pair N) (pair_laws N) r (v ∷ []) is₀) refl $
             peeks ! (pair_row N) (Is (pair_row N)) (shows 𝓛 (pair_row N)) r (pair_vals N r) (λ is. drop ! $
             -- as above
             assigns ! (of_opd ! (load ! (from ! (fld ! refl (stop !))) (look_in ! 8 (sub ! 0 refl (whole !))))) (from ! (hop ! (look ! 14 refl) (stop !))) (store_raw ! 0 refl ((LL.lawful S.type S.laws 𝓛).typed (N.state r) _ (LL.owed (pair N) (pair_laws N) r _ is).0).0) $

@@ -131,14 +131,14 @@ module _ {S P : Data} {N : Pair S P} {m : Made N} {A₁ A₂ : Arg} (c : Call m 
             move ! (2 ∷ 0 ∷ []) $ use2 𝓛 (raw ((Board 𝓛).pre (to_board ν l₄ γ))) (goes_board ν l₄ γ) $
             -- [what the call asks; the lender's part; the locals but for the one that is lent]
             calls_at ! (fm_of 𝓤 H 𝓛.laws 𝓣) (Board 𝓛) known (to_board ν l₄ γ) (and_then ! (load ! (from ! (stop !)) (look ! 4 refl)) (and_then ! (load ! (from ! (stop !)) (look ! 11 refl)) (and_then ! (load ! (from ! (stop !)) (look ! 9 refl)) (no_more !)))) (λ v.
-            use1 𝓛 (later (some (λ (p : P.type.D). ((‵ (flft (ν ∷ []) full_share) ⊛ ‵ ftrue) ⊛ ‵ ((row P).own p (v ∷ []))) ⊛ raw (ensured 𝓛 board_ended (board_clauses 𝓤) (ν ∷ [], tt) (passed l₄ γ) tt p)))) (id⊢ 𝓤 _) $ await ! tt $ pick ! (λ p.
+            use1 𝓛 (later (some (λ (p : P.type.D). ((‵ (flft (ν ∷ []) full_share) ⊛ ‵ ftrue) ⊛ ‵ ((row P).own_val p (v ∷ []))) ⊛ raw (ensured 𝓛 board_ended (board_clauses 𝓤) (ν ∷ [], tt) (passed l₄ γ) tt p)))) (id⊢ 𝓤 _) $ await ! tt $ pick ! (λ p.
             -- what it ensures, at the state that it left
             split ! $ move ! (1 ∷ []) $ use1 𝓛 (some (λ (ws : Lasts board_ended (ν ∷ [], tt) (passed l₄ γ)). ‵ (lasts board_ended (ν ∷ [], tt) (passed l₄ γ) ws) ⊛ raw (fact 𝓤 (c.Says h x₁ x₂ p ws.0)))) (id⊢ 𝓤 _) $ pick ! (λ ws.
             split ! $ move ! (1 ∷ []) $ heard ! (c.Says h x₁ x₂ p ws.0) (λ e. fsplit ! $ move ! (2 ∷ []) $ split ! $ move ! (1 ∷ []) $
             peeks ! (row P) (Is (row P)) (shows 𝓛 (row P)) p (v ∷ []) (λ is₀.
             land ! (from ! (stop !)) (init ! 9 refl ((LL.lawful P.type P.laws 𝓛).typed p _ is₀).0) $
             rewrite ! 9 (λ (us : List Val). ‵ (fat full_share (ty P) l₅ 0 (only us))) (LL.tells P.type P.laws p (v ∷ []) is₀) refl $
-            rewrite ! 0 (λ (us : List Val). ‵ ((row P).own p us)) (LL.tells P.type P.laws p (v ∷ []) is₀) refl $
+            rewrite ! 0 (λ (us : List Val). ‵ ((row P).own_val p us)) (LL.tells P.type P.laws p (v ∷ []) is₀) refl $
             peeks ! (row P) (Is (row P)) (shows 𝓛 (row P)) p (vals P p) (λ is-p. drop ! $
             -- the lifetime is ended, and the local comes back at that state
             split ! $ lft_end ! tt $ move ! (0 ∷ 4 ∷ 2 ∷ []) $

@@ -148,7 +148,7 @@ module _ {L Q : Data} {N : ℕ} (m : Lines L N) (c : Call L Q) where
             move ! (3 ∷ 0 ∷ []) $ use2 𝓛 (raw ((Board 𝓛).pre (to_board ν l₃ γ))) (goes_board ν l₃ γ) $
             -- [what the call asks; the lender's part; the elements behind; the locals but for the array that is lent]
             calls_at ! (fm_of 𝓤 H 𝓛.laws 𝓣) (Board 𝓛) known (to_board ν l₃ γ) (and_then ! (load ! (from ! (stop !)) (look ! 3 refl)) (no_more !)) (λ v.
-            use1 𝓛 (later (some (λ (r : Q.type.D). ((‵ (flft (ν ∷ []) full_share) ⊛ ‵ ftrue) ⊛ ‵ ((row Q).own r (v ∷ []))) ⊛ raw (ensured 𝓛 board_ended (board_clauses 𝓤) (ν ∷ [], tt) (passed l₃ γ) tt r)))) (id⊢ 𝓤 _) $ await ! tt $ pick ! (λ r.
+            use1 𝓛 (later (some (λ (r : Q.type.D). ((‵ (flft (ν ∷ []) full_share) ⊛ ‵ ftrue) ⊛ ‵ ((row Q).own_val r (v ∷ []))) ⊛ raw (ensured 𝓛 board_ended (board_clauses 𝓤) (ν ∷ [], tt) (passed l₃ γ) tt r)))) (id⊢ 𝓤 _) $ await ! tt $ pick ! (λ r.
             split ! $ move ! (1 ∷ []) $ use1 𝓛 (raw (fact 𝓤 (c.Says (take n xs) r))) (board_said ν l₃ γ r) $ heard ! (c.Says (take n xs) r) (λ e. split ! $ move ! (1 ∷ []) $
             peeks ! (row Q) (Is (row Q)) (shows 𝓛 (row Q)) r (v ∷ []) (λ is-r. drop ! $
             land ! (from ! (stop !)) (init ! 12 refl ((LL.lawful Q.type Q.laws 𝓛).typed r _ is-r).0) $

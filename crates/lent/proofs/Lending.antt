@@ -46,7 +46,7 @@ module _ (S : Data) {M : Type 1} {𝓤 : Ura M} (𝓛 : Logic 𝓤) (κ : Lft) (
   lends h is =
       qed 𝓛 (‵ (cell h) ∷ []) ∵ updating ! $ use1 𝓛 (‵ (fat full_share (raw_ty (ty S)) b 0 (val S h))) (𝓛.laws.at_raw full_share (ty S) b 0 (val S h)) $
       owned ! (row S) (Is (row S)) (LL.makes S.type S.plain 𝓛) h (vals S h) is $ move ! (1 ∷ 0 ∷ []) $ fjoin ! $
-      fpack ! (List Val) (λ us. fsep (cell_at full_share (row S).mir us b 0) ((row S).own h us)) (vals S h) $
+      fpack ! (List Val) (λ us. fsep (cell_at full_share (row S).mir us b 0) ((row S).own_val h us)) (vals S h) $
       use1 𝓛 (later (some (λ (γ : GName). ‵ (lent γ h) ⊛ ‵ (flent κ (Body (mem (row S)) b 0 γ))))) (lends_ref 𝓛 (row S) (named 0) κ h b 0) $ await ! tt $ at_once ! $ done !
 
   pub back : (γ : GName) (y : S.type.D) → ent 𝓤 (sep 𝓤 (A.dead κ) (sep 𝓤 (A.lent κ (Body (mem (row S)) b 0 γ)) (A.res γ ((row S).coded.code y)))) (H.⇛ (guard 𝓤 (Is (row S) y (vals S y)) (sem 𝓛 (cell y))))
@@ -69,7 +69,7 @@ module _ (S : Data) {M : Type 1} {𝓤 : Ura M} (𝓛 : Logic 𝓤) (κ : Lft) (
   lends_shared h is =
       qed 𝓛 (‵ (cell h) ∷ []) ∵ updating ! $ use1 𝓛 (‵ (fat full_share (raw_ty (ty S)) b 0 (val S h))) (𝓛.laws.at_raw full_share (ty S) b 0 (val S h)) $
       owned ! (row S) (Is (row S)) (LL.makes S.type S.plain 𝓛) h (vals S h) is $ move ! (1 ∷ 0 ∷ []) $ fjoin ! $
-      fpack ! (List Val) (λ us. fsep (cell_at full_share (row S).mir us b 0) ((row S).own h us)) (vals S h) $
+      fpack ! (List Val) (λ us. fsep (cell_at full_share (row S).mir us b 0) ((row S).own_val h us)) (vals S h) $
       use1 𝓛 (later (some (λ (γ : GName). ‵ (shared γ h) ⊛ ‵ (flent κ (held h))))) (lends_shr 𝓛 (row S) (named 0) κ full_share h b 0) $ await ! tt $ at_once ! $ done !
 
   pub shared_back : (h : S.type.D) → ent 𝓤 (sep 𝓤 (A.dead κ) (A.lent κ (held h))) (H.⇛ (sem 𝓛 (cell h)))

@@ -64,7 +64,7 @@ module _ (L : Data) (N : ℕ) {M : Type 1} {𝓤 : Ura M} (𝓛 : Logic 𝓤) (�
     lends_part room is =
         qed 𝓛 (‵ (fat full_share (all_ty L N) b 0 (all_val L xs)) ∷ []) ∵ updating ! $ use1 𝓛 (‵ (fat full_share (raw_ty (all_ty L N)) b 0 (all_val L xs))) (𝓛.laws.at_raw full_share (all_ty L N) b 0 (all_val L xs)) $
         owned ! (all L N) (Is (all L N)) (Array-Makes 𝓛 (row L) (LL.makes L.type L.plain 𝓛) N) xs (all_val L xs ∷ []) is $ move ! (1 ∷ 0 ∷ []) $ fjoin ! $
-        fpack ! (List Val) (λ us. fsep (cell_at full_share (all L N).mir us b 0) ((all L N).own xs us)) (all_val L xs ∷ []) $
+        fpack ! (List Val) (λ us. fsep (cell_at full_share (all L N).mir us b 0) ((all L N).own_val xs us)) (all_val L xs ∷ []) $
         use1 𝓛 (‵ ((arr_parts (shares (row L)) N).part full_share xs b 0)) (Array-apart 𝓛 (row L) full_share tt N xs b 0) $ fsplit ! $ feq_l ! (λ l.
         use1 𝓛 (‵ (cells (mem (row L)) xs b 0)) (whole_in 𝓛 (row L) xs b 0) $ rewrite ! 0 (λ (ys : List L.type.D). ‵ (cells (mem (row L)) ys b 0)) (sym (take-append-drop n xs)) refl $
         use1 𝓛 (‵ (cells (mem (row L)) (take n xs) b 0) ⊛ ‵ (rest_of (take n xs) (behind n xs))) (cut_app 𝓛 (mem (row L)) (take n xs) (behind n xs) b 0) $ split ! $

@@ -99,8 +99,7 @@ pub fn text(tape: &[u8], out: &mut [u8; ROOM], at: usize) -> usize
     let Opening::Accepted = answer else {
         return transcript::open_line(out, at, answer);
     };
-    let mut grid = bands::none();
-    let ran = transcript::run_out(tape, opened.run, &mut grid);
+    let ran = transcript::run_out(tape, opened.run);
     let next = lines(out, at, ran.state);
     let halt = ran.halt;
     transcript::halt_line(out, next, halt)

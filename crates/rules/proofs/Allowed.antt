@@ -57,12 +57,6 @@ time_of T v (Activate t n) a = a.time.not_back
 time_of T v (Terminate t) a = a.time.not_back
 time_of T v (Chain t n) a = a.time.not_back
 
-pub bound_of : (T : Table) (v : View) (e : Call) → Allowed T v e → (tick_of e).0 ≤ greatest.0
-bound_of T v (Wait t) a = a.not_over
-bound_of T v (Activate t n) a = a.time.not_over
-bound_of T v (Terminate t) a = a.time.not_over
-bound_of T v (Chain t n) a = a.time.not_over
-
 pub known_of : (T : Table) (v : View) (e : Call) → Allowed T v e → Known T e
 known_of T v (Wait t) a = tt
 known_of T v (Activate t n) a = a.enters.known

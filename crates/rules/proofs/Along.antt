@@ -1,24 +1,16 @@
--- What every call keeps is kept by every sequence of calls: a fact of all that is done, a balance. Assumes nothing.
+-- A balance that every call keeps is kept by every sequence of calls. Assumes nothing.
 use Prim.Native.Nat.{ℕ, ◌+◌}
 use mathlib.Core.Path.{◌≡◌}
 use mathlib.Core.Bool.{Bool}
 use mathlib.Core.List.{List, [], ◌∷◌}
 use native.Mathlib.Omega.{arith}
 use Rattle.rules.specs.declared.Call.{Call}
-use Rattle.rules.specs.Words.{count_by, All}
+use Rattle.rules.specs.Words.{count_by}
 use Rattle.rules.specs.Table.{Table}
 use Rattle.rules.specs.Layer.{Board, next}
 use Rattle.rules.specs.Run.{run}
 use Rattle.rules.specs.History.{along}
-use Rattle.rules.proofs.Lists.{all_append, count_append}
-
--- a fact of what each call did
-pub all_along {ℓ} : {A : Type ℓ} (T : Table) (I : Board → Type 0) → ((b : Board) → I b → (e : Call) → I (next T b e))
-    → (P : A → Type 0) (did : Board → Call → List A) → ((b : Board) → I b → (e : Call) → All P (did b e))
-    → (b : Board) → I b → (es : List Call) → All P (along T did b es)
-all_along T I keep P did step b i [] = tt
-all_along T I keep P did step b i (e ∷ es) =
-    all_append P (did b e) (along T did (next T b e) es) (step b i e) (all_along T I keep P did step (next T b e) (keep b i e) es)
+use Rattle.rules.proofs.Lists.{count_append}
 
 -- what came in and what went out, as a stock m of the board says
 pub balance : {A B : Type 0} (T : Table) (I : Board → Type 0) → ((b : Board) → I b → (e : Call) → I (next T b e))

@@ -7,15 +7,13 @@ use Rattle.rules.specs.Calls.{refusal}
 use Rattle.rules.specs.Late.{is_past}
 use Rattle.rules.specs.Number.{groups_in, joined, rest_of, number_of, bounded_at}
 use Rattle.rules.specs.Tape.{record_bytes, line_bytes, lines_bytes, table_bytes, records_bytes, tape_of, call_at, ticks_at, record_at, line_at, lines_at, table_at, records_in, read_tape}
-use Rattle.rules.specs.Print.{decimal_in, spaced, comma_tasks, tasks_text, answer_text, table_text, tape_text, calls_text, opening, transcript, report_text}
+use Rattle.rules.specs.Print.{decimal_in, spaced, comma_tasks, tasks_text, answer_text, table_text, tape_text, calls_text, opening, transcript}
 use Rattle.rules.specs.Why.{reason, why}
 use Rattle.rules.specs.WhyPrint.{why_text, why_lines_from, why_transcript}
-use Rattle.rules.specs.Bands.{lateness, band_of, banded}
-use Rattle.rules.specs.BandsPrint.{rows_text, bands_transcript}
 use Rattle.rules.specs.Cases.{Cases}
 
 pub cases : Cases
-unfolding key_at before refusal is_past ◌if◌else◌ ◌then◌ refuse groups_in joined rest_of number_of bounded_at record_bytes line_bytes lines_bytes table_bytes records_bytes tape_of call_at ticks_at record_at line_at lines_at table_at records_in read_tape decimal_in spaced comma_tasks tasks_text answer_text table_text tape_text calls_text opening transcript report_text reason why why_text why_lines_from why_transcript lateness band_of banded rows_text bands_transcript
+unfolding key_at before refusal is_past ◌if◌else◌ ◌then◌ refuse groups_in joined rest_of number_of bounded_at record_bytes line_bytes lines_bytes table_bytes records_bytes tape_of call_at ticks_at record_at line_at lines_at table_at records_in read_tape decimal_in spaced comma_tasks tasks_text answer_text table_text tape_text calls_text opening transcript reason why why_text why_lines_from why_transcript
 cases =
     record {
       printed_written = refl;
@@ -118,18 +116,4 @@ cases =
       place_first = refl;
       place_alone = refl;
       place_unordered = refl;
-      band_borders = refl;
-      band_least = refl;
-      band_greatest = refl;
-      band_stands_still = refl;
-      band_one_below = refl;
-      bands_printed = refl;
-      bands_by_chain = refl;
-      bands_refused = refl;
-      bands_print = refl;
-      bands_print_so_far = refl;
-      bands_print_no_record = refl;
-      bands_print_bad_table = refl;
-      bands_print_nothing_read = refl;
-      bands_print_too_long = refl;
     }

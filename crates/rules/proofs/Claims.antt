@@ -20,9 +20,6 @@ use Rattle.rules.proofs.Places.{places_suffice}
 use Rattle.rules.proofs.Counted.{counts_add_up}
 use Rattle.rules.proofs.Reasons.{why_true, why_refused}
 use Rattle.rules.proofs.Searched.{place_from_back, list_from_back}
-use Rattle.rules.proofs.Lateness.{band_exact, late_bands}
-use Rattle.rules.proofs.Banded.{lateness_bounded, bands_add_up, end_counts, others_count_none}
-use Rattle.rules.proofs.Shares.{bands_share}
 use Rattle.rules.proofs.Cases.{cases}
 
 pub the_claims : Claims
@@ -58,12 +55,5 @@ the_claims =
       why_refused = why_refused;
       place_from_back = place_from_back;
       list_from_back = list_from_back;
-      band_exact = band_exact;
-      lateness_bounded = lateness_bounded;
-      late_bands = late_bands;
-      bands_add_up = bands_add_up;
-      end_counts = end_counts;
-      others_count_none = others_count_none;
-      bands_share = bands_share;
       cases = cases;
     }

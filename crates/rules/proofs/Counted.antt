@@ -28,11 +28,11 @@ use Rattle.rules.specs.History.{along, Ended, ended_at, ended_by, endings, ended
 -- ---- one count
 
 -- k is kept, p more are to come, and the end is w
-abbrev pub Comes : ℕ → ℕ → ℕ → Type 0
+abbrev Comes : ℕ → ℕ → ℕ → Type 0
 Comes w p k = (k ≤ most) × (min (k + p) most ≡ w)
 
 -- one has come: a count that stands still is at the end already
-pub one_up : (w p k : ℕ) → Comes w (suc p) k → Comes w p (up k)
+one_up : (w p k : ℕ) → Comes w (suc p) k → Comes w p (up k)
 one_up w p k h = go (ltb k most) refl
   where
     go : (t : Bool) → ltb k most ≡ t → Comes w p (cond t (suc k) k)

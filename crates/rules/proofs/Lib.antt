@@ -13,11 +13,9 @@ pub mod Allowed
 -- what every call keeps
 pub mod Moves
 pub mod Bare
-pub mod Each
 pub mod Invariant
 pub mod Step
 pub mod Room
-pub mod Reach
 pub mod First
 pub mod Reached
 -- the claims
@@ -38,8 +36,5 @@ pub mod Places
 pub mod Counted
 pub mod Reasons
 pub mod Searched
-pub mod Lateness
-pub mod Banded
-pub mod Shares
 pub mod Cases
 pub mod Claims

@@ -1,24 +1,25 @@
 -- The mark on a job is what the last accepted call's tick tells, so that no code need keep it. Assumes nothing.
-use Prim.Native.Nat.{◌≤◌}
+use Prim.Native.Nat.{ℕ, zero, suc, ◌≤◌}
 use mathlib.Core.Path.{◌≡◌, refl, ap, ◌∙◌}
 use mathlib.Core.Bool.{Bool, cond, not, ◌&&◌, ◌||◌}
-use mathlib.Core.List.{List, [], ◌∷◌}
+use mathlib.Core.List.{List, [], ◌∷◌, map}
 use Rattle.rules.specs.declared.Tick.{Tick}
 use Rattle.rules.specs.declared.Phase.TheVariants.{Delayed}
 use Rattle.rules.specs.declared.Call.{Call}
 use Rattle.rules.specs.declared.Call.TheVariants.{Wait, Activate, Terminate, Chain}
-use Rattle.rules.specs.Words.{only, All}
+use Rattle.rules.specs.Words.{unless, only, All}
 use Rattle.rules.specs.Table.{Table, Passes}
-use Rattle.rules.specs.Jobs.{Job, Pending, accepted, new_job}
-use Rattle.rules.specs.Calls.{View, tick_of}
+use Rattle.rules.specs.Jobs.{Job, Pending, accepted, new_job, before}
+use Rattle.rules.specs.Calls.{tick_of}
 use Rattle.rules.specs.Late.{is_past, is_late, newly_late, marked_at, falls_late}
-use Rattle.rules.specs.Layer.{Board, fresh, next}
+use Rattle.rules.specs.Layer.{Board, fresh, next, done, marked, result, viewed, running}
 use Rattle.rules.specs.Run.{run}
 use Rattle.rules.specs.Statement.{LateNeedsNoMark}
 use Rattle.rules.specs.History.{makes}
+use Rattle.rules.proofs.Lists.{all_over}
 use Rattle.rules.proofs.Past.{stays_past, not_past_yet, falls_late_lem}
-use Rattle.rules.proofs.Allowed.{Allowed, Known, known_of}
-use Rattle.rules.proofs.Each.{next_each, fresh_each}
+use Rattle.rules.proofs.Moves.{moved_all}
+use Rattle.rules.proofs.Allowed.{Known, known_of, time_of, allowed}
 
 pub record Marked (now : Tick) (j : Job) : Type 0 where
   pub mark : j.reported ≡ is_past now j.due
@@ -32,15 +33,23 @@ marked_new T p (Activate t n) k = (record { mark = not_past_yet T p t n k }, tt)
 marked_new T p (Terminate t) k = tt
 marked_new T p (Chain t n) k = (record { mark = not_past_yet T p t n k }, tt)
 
-module _ (T : Table) (p : Passes T) where
-  each_marked : (v : View) (e : Call) → Allowed T v e → All (λ (j : Pending). Marked (tick_of e) (new_job Delayed j)) (makes (accepted T) e)
-  each_marked v e a = marked_new T p e (known_of T v e a)
+pub next_marked : (T : Table) → Passes T → (b : Board) (e : Call) → All (Marked b.last) b.jobs → All (Marked (next T b e).last) (next T b e).jobs
+next_marked T p b e h = go (result T b e) refl
+  where
+    go : (k : ℕ) → result T b e ≡ k → All (Marked (unless k b (done T (marked (tick_of e) b) e)).last) (unless k b (done T (marked (tick_of e) b) e)).jobs
+    go zero z =
+        let a = allowed T (viewed T b) e z in
+        moved_all (Marked (tick_of e)) (λ j k. record { mark = k.mark }) (before T) (accepted T) (running T b) (map (marked_at (tick_of e)) b.jobs) e
+        (marked_new T p e (known_of T (viewed T b) e a))
+        (all_over (Marked b.last) (Marked (tick_of e)) (marked_at (tick_of e)) (marked_later b.last (tick_of e) (time_of T (viewed T b) e a)) b.jobs h)
+    go (suc k) z = h
 
-  pub next_marked : (b : Board) (e : Call) → All (Marked b.last) b.jobs → All (Marked (next T b e).last) (next T b e).jobs
-  next_marked = next_each T Marked (λ t j k. record { mark = k.mark }) marked_later each_marked
+run_marked : (T : Table) → Passes T → (b : Board) → All (Marked b.last) b.jobs → (es : List Call) → All (Marked (run T b es).last) (run T b es).jobs
+run_marked T p b h [] = h
+run_marked T p b h (e ∷ es) = run_marked T p (next T b e) (next_marked T p b e h) es
 
-  pub fresh_marked : (calls : List Call) → All (Marked (run T fresh calls).last) (run T fresh calls).jobs
-  fresh_marked = fresh_each T Marked (λ t j k. record { mark = k.mark }) marked_later each_marked
+pub fresh_marked : (T : Table) → Passes T → (calls : List Call) → All (Marked (run T fresh calls).last) (run T fresh calls).jobs
+fresh_marked T p calls = run_marked T p fresh tt calls
 
 only_alike : (f g : Job → Bool) (l : List Job) → All (λ (j : Job). f j ≡ g j) l → only f l ≡ only g l
 only_alike f g [] h = refl

@@ -17,7 +17,6 @@ use Rattle.rules.proofs.Invariant.{Good}
 use Rattle.rules.proofs.Step.{fresh_good}
 use Rattle.rules.proofs.First.{first_of, top_first, leaves, runs_first}
 use Rattle.rules.proofs.Room.{room_for_all}
-use Rattle.rules.proofs.Reach.{InReach, fresh_reach}
 use Rattle.rules.proofs.Marks.{Marked, fresh_marked}
 
 pub run_last : (T : Table) (h : Head) (es : List Call) (e : Call) → head_run T h (es ++ (e ∷ [])) ≡ head_next T (head_run T h es) e
@@ -48,9 +47,6 @@ module _ (T : Table) (h : Head) (r : Reached T h) where
 
   pub reached_marked : All (Marked h.board.last) h.board.jobs
   reached_marked = subst⁻¹ (λ (z : Board). All (Marked z.last) z.jobs) reached_board (fresh_marked T reached_keeps.passes r.calls)
-
-  pub reached_reach : All (InReach h.board.last) h.board.jobs
-  reached_reach = subst⁻¹ (λ (z : Board). All (InReach z.last) z.jobs) reached_board (fresh_reach T r.calls)
 
   -- the list has room
   pub reached_room : length h.board.jobs ≤ 32

@@ -28,7 +28,7 @@ use Rattle.rules.proofs.Marks.{Marked, next_marked, fresh_marked}
 use Rattle.rules.proofs.Vanished.{nothing_vanishes}
 
 -- the job that a call ends is one of the list
-pub all_ending : (Q : Job → Type 0) (T : Table) (b : Board) (e : Call) → All Q b.jobs → All Q (found (ending T b e))
+all_ending : (Q : Job → Type 0) (T : Table) (b : Board) (e : Call) → All Q b.jobs → All Q (found (ending T b e))
 all_ending Q T b (Wait t) h = tt
 all_ending Q T b (Activate t n) h = tt
 all_ending Q T b (Terminate t) h = all_found Q (running T b) b.jobs h

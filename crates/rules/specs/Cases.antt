@@ -1,5 +1,5 @@
--- Document 01, "The program and one whole run" and "Errors a builder could fall into": the printed run, cases a to l (j as Q-2 has it), and other single rows, as one statement; and those of Q-1, Q-3 and Q-4. Assumes nothing.
-use Rattle.std.specs.Prelude.{ℕ, ◌+◌, ◌*◌, ◌/◌, ◌≡◌, true, false, List, [], ◌∷◌, ◌++◌, map, take, replicate, ltb}
+-- Document 01, "The program and one whole run" and "Errors a builder could fall into": the printed run, cases a to l (j as Q-2 has it), and other single rows, as one statement; and those of Q-1 and Q-3. Assumes nothing.
+use Rattle.std.specs.Prelude.{ℕ, ◌+◌, ◌*◌, ◌/◌, ◌≡◌, true, false, List, [], ◌∷◌, ◌++◌, take, replicate, ltb}
 use Prim.Native.String.{String}
 use Rattle.std.proofs.Math.Option.{some}
 use Rattle.rules.specs.declared.Tick.{Tick}
@@ -34,8 +34,6 @@ use Rattle.rules.specs.declared.Why.TheVariants.{Because}
 use Rattle.rules.specs.Why.{why}
 use Rattle.rules.specs.WhyPrint.{why_transcript}
 use Rattle.rules.specs.Search.{from_front, from_back, reads_from_back}
-use Rattle.rules.specs.Bands.{lateness, band_of, row_more, bands}
-use Rattle.rules.specs.BandsPrint.{bands_transcript}
 
 abbrev pub line : ℕ → ℕ → ℕ → Line
 line d p l = record { deadline = record { 0 = d }; priority = p; limit = l }
@@ -108,10 +106,6 @@ lines (s ∷ ss) = ended (ascii s) ++ lines ss
 -- a new deadline among deadlines: its place from the front, its place from the back, and how many are read from the back
 abbrev pub searched : ℕ → List ℕ → List ℕ
 searched n l = from_front ltb n l ∷ from_back ltb n l ∷ reads_from_back ltb n l ∷ []
-
--- the bands of jobs due at 2,000 that end at these ticks
-abbrev pub bands_at : List ℕ → List ℕ
-bands_at l = map (λ t. band_of (lateness (at t) (at 2000))) l
 
 pub record Cases : Type 0 where
   -- the printed run
@@ -274,22 +268,3 @@ pub record Cases : Type 0 where
   pub place_first : searched 2 (3 ∷ 5 ∷ 5 ∷ 6 ∷ []) ≡ 0 ∷ 0 ∷ 4 ∷ []
   pub place_alone : searched 2 [] ≡ 0 ∷ 0 ∷ 0 ∷ []
   pub place_unordered : searched 4 (5 ∷ 3 ∷ []) ≡ 0 ∷ 2 ∷ 1 ∷ []
-  -- Q-4: both ends of each band, due at 2,000; the least and the greatest lateness that can arise; where counts stand still
-  pub band_borders :
-      bands_at (1000 ∷ 1001 ∷ 1900 ∷ 1901 ∷ 1990 ∷ 1991 ∷ 1999 ∷ 2000 ∷ 2009 ∷ 2010 ∷ 2099 ∷ 2100 ∷ 2999 ∷ 3000 ∷ [])
-      ≡ 0 ∷ 1 ∷ 1 ∷ 2 ∷ 2 ∷ 3 ∷ 3 ∷ 4 ∷ 4 ∷ 5 ∷ 5 ∷ 6 ∷ 6 ∷ 7 ∷ []
-  pub band_least : band_of (lateness (at 5) (at 1000000005)) ≡ 0
-  pub band_greatest : band_of (lateness greatest (at 1)) ≡ 7
-  pub band_stands_still : row_more 1 (0 ∷ 4294967295 ∷ []) ≡ 0 ∷ 4294967295 ∷ []
-  pub band_one_below : row_more 1 (0 ∷ 4294967294 ∷ []) ≡ 0 ∷ 4294967295 ∷ []
-  pub bands_printed :
-      take 4 (bands table_p printed)
-      ≡ (0 ∷ 0 ∷ 0 ∷ 1 ∷ 1 ∷ 0 ∷ 0 ∷ 0 ∷ []) ∷ (0 ∷ 0 ∷ 0 ∷ 1 ∷ 0 ∷ 0 ∷ 0 ∷ 0 ∷ []) ∷ (0 ∷ 0 ∷ 0 ∷ 1 ∷ 0 ∷ 0 ∷ 0 ∷ 0 ∷ []) ∷ replicate 8 0 ∷ []
-  pub bands_by_chain : take 1 (bands table_p (Activate (at 0) 0 ∷ Chain (at 13) 1 ∷ [])) ≡ (0 ∷ 0 ∷ 0 ∷ 0 ∷ 0 ∷ 1 ∷ 0 ∷ 0 ∷ []) ∷ []
-  pub bands_refused : bands table_p (Activate (at 0) 0 ∷ Chain (at 1) 3 ∷ Terminate (at 4611686018427387904) ∷ []) ≡ replicate 32 (replicate 8 0)
-  pub bands_print : bands_transcript printed_tape ≡ lines ("0 0 0 1 1 0 0 0" ∷ "0 0 0 1 0 0 0 0" ∷ "0 0 0 1 0 0 0 0" ∷ [])
-  pub bands_print_so_far : bands_transcript (take 22 printed_tape) ≡ lines ("0 0 0 1 0 0 0 0" ∷ "0 0 0 0 0 0 0 0" ∷ "0 0 0 0 0 0 0 0" ∷ "tape 20 at 21" ∷ [])
-  pub bands_print_no_record : bands_transcript (0x01 ∷ 0x03 ∷ 0x0C ∷ 0x02 ∷ []) ≡ lines ("0 0 0 0 0 0 0 0" ∷ [])
-  pub bands_print_bad_table : bands_transcript (0x02 ∷ 0x03 ∷ 0x01 ∷ 0x01 ∷ 0x05 ∷ 0x02 ∷ 0x01 ∷ 0x04 ∷ []) ≡ lines ("table 5 0 1" ∷ [])
-  pub bands_print_nothing_read : bands_transcript [] ≡ lines ("tape 20 at 0" ∷ [])
-  pub bands_print_too_long : bands_transcript (replicate 65537 33) ≡ lines ("tape 26 at 65536" ∷ [])

@@ -2,7 +2,6 @@
 use Rattle.rules.specs.Statement.{Demand3, Demand3Answers, Demand3Broken, PlainIsEdf, KernelIsPriority, PreemptedOldest, ChainIsBoth, CheckExact, RefusalsExact, PlainRefusalsExact, LastAccepted, RefusedUnchanged, NoTen, ListHolds, RunsReleased, ListMoves, CallsExact, CallsMade, ReleasedOnce, NothingVanishes, ApartPriorities, LateOnce, ReportedOnce, LateNeedsNoMark, PlacesSuffice, CountsAddUp}
 use Rattle.rules.specs.Why.{WhyTrue, WhyRefused}
 use Rattle.rules.specs.Search.{PlaceFromBack, ListFromBack}
-use Rattle.rules.specs.Bands.{BandExact, LatenessBounded, LateBands, BandsAddUp, EndCounts, OthersCountNone, BandsShare}
 use Rattle.rules.specs.Cases.{Cases}
 
 pub record Claims : Type 0 where
@@ -45,14 +44,5 @@ pub record Claims : Type 0 where
   -- Q-3: from the back a new job finds the place that it finds from the front: in every list that is in order, and so in the layer's
   pub place_from_back : PlaceFromBack
   pub list_from_back : ListFromBack
-  -- Q-4: each lateness is in one band, bounded, and from band 4 on exactly where the job was late
-  pub band_exact : BandExact
-  pub lateness_bounded : LatenessBounded
-  pub late_bands : LateBands
-  -- each count is what the accepted calls say; a job's end changes one, every other call none; a task's counts add up to its ended jobs
-  pub bands_add_up : BandsAddUp
-  pub end_counts : EndCounts
-  pub others_count_none : OthersCountNone
-  pub bands_share : BandsShare
   -- the printed run, and cases a to l
   pub cases : Cases

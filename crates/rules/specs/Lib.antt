@@ -17,8 +17,6 @@ pub mod Search
 pub mod Print
 pub mod WhyPrint
 pub mod History
-pub mod Bands
-pub mod BandsPrint
 pub mod Statement
 pub mod Cases
 pub mod Claims

@@ -187,25 +187,3 @@ opened_text tape o = opening_text o.answer ++ behind_text o.answer (records_text
 
 unfoldable pub transcript : List ℕ → List ℕ
 transcript tape = opened_text tape (opening tape)
-
--- ---- a program that reports something else of the calls, in place of header and lines
-
--- what it says of a table and the calls on it
-abbrev pub Report : Type 0
-Report = Table → List Call → List ℕ
-
--- after the records that are read; a bad tape ends the print with its line
-abbrev pub report_records : Report → Table → Records → List ℕ
-report_records says T rs = says T rs.calls ++ stop_text rs.stop
-
--- a refused table and a bad tape print their one line as above
-abbrev pub instead_text : Opening → List ℕ → List ℕ
-instead_text Accepted t = t
-instead_text (BadTable v) t = opening_text (BadTable v)
-instead_text (BadTape n p) t = opening_text (BadTape n p)
-
-abbrev pub report_opened : Report → List ℕ → Opened → List ℕ
-report_opened says tape o = instead_text o.answer (report_records says o.table (records_at tape o.first zero_tick))
-
-unfoldable pub report_text : Report → List ℕ → List ℕ
-report_text says tape = report_opened says tape (opening tape)

@@ -1,13 +1,16 @@
 -- Q-1, the program tape_why: a tape is run as document 01 runs it, with no print on the way; then a line says of each task why it waits. Assumes nothing.
 use Rattle.std.specs.Prelude.{ℕ, zero, suc, List, [], ◌∷◌, ◌++◌}
+use Rattle.rules.specs.declared.Opening.{Opening}
+use Rattle.rules.specs.declared.Opening.TheVariants.{Accepted, BadTable, BadTape}
 use Rattle.rules.specs.declared.Reason.{Reason}
 use Rattle.rules.specs.declared.Reason.TheVariants.{NonePending, ItRuns, Earlier, ThereFirst}
 use Rattle.rules.specs.declared.Why.{Why}
 use Rattle.rules.specs.declared.Why.TheVariants.{Because, Refused}
 use Rattle.rules.specs.Table.{Table, size}
 use Rattle.rules.specs.Layer.{Board, fresh}
+use Rattle.rules.specs.Tape.{zero_tick, Records, records_at}
 use Rattle.rules.specs.Run.{run}
-use Rattle.rules.specs.Print.{ascii, decimal, spaced, ended, Report, report_text}
+use Rattle.rules.specs.Print.{ascii, decimal, spaced, ended, stop_text, Opened, opening, opening_text}
 use Rattle.rules.specs.Why.{why}
 
 -- ---- a task's line
@@ -38,9 +41,18 @@ why_lines_from T b n (suc left) = ended (why_text n (why T b n)) ++ why_lines_fr
 abbrev pub why_lines : Table → Board → List ℕ
 why_lines T b = why_lines_from T b 0 (size T)
 
--- after the calls
-abbrev pub why_report : Report
-why_report T calls = why_lines T (run T fresh calls)
+-- after the records that are read; a bad tape ends the print with its line
+abbrev pub why_records : Table → Records → List ℕ
+why_records T rs = why_lines T (run T fresh rs.calls) ++ stop_text rs.stop
+
+-- in place of document 01's header and lines; a refused table and a bad tape print their one line as there
+abbrev pub instead_text : Opening → List ℕ → List ℕ
+instead_text Accepted t = t
+instead_text (BadTable v) t = opening_text (BadTable v)
+instead_text (BadTape n p) t = opening_text (BadTape n p)
+
+abbrev pub why_opened : List ℕ → Opened → List ℕ
+why_opened tape o = instead_text o.answer (why_records o.table (records_at tape o.first zero_tick))
 
 unfoldable pub why_transcript : List ℕ → List ℕ
-why_transcript tape = report_text why_report tape
+why_transcript tape = why_opened tape (opening tape)

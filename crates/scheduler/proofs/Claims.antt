@@ -111,7 +111,7 @@ checked_fresh T a =
     let m = (keeps_found T (ap (λ (v : Verdict). v.number) a)).passes.counted.1 in
     ap (λ (z : Checked). z.state) (answers_every T (packed T.lines) (copy_packed T m)).gives
 
-pub checked_is : (T : Table) → check T ≡ fine → checked T ≡ state_of T fresh_head
+checked_is : (T : Table) → check T ≡ fine → checked T ≡ state_of T fresh_head
 checked_is T a = checked_fresh T a ∙ ap (λ (v : Verdict). state_of (unless v.number (record { lines = [] }) T) fresh_head) a
 
 -- ---- refused calls

@@ -5,7 +5,6 @@ use Rattle.ticks.proofs.is_beyond.Reads as is_beyond
 use Rattle.ticks.proofs.bad_tick.Reads as bad_tick
 use Rattle.ticks.proofs.is_past.Reads as is_past
 use Rattle.ticks.proofs.response.Reads as response
-use Rattle.ticks.proofs.lateness.Reads as lateness
 
 pub record Outcomes : Type 0 where
   plus : OneStated plus.Post
@@ -13,7 +12,6 @@ pub record Outcomes : Type 0 where
   bad_tick : OneStated bad_tick.Post
   is_past : OneStated is_past.Post
   response : OneStated response.Post
-  lateness : OneStated lateness.Post
 
 pub the_outcomes : Outcomes
 the_outcomes =
@@ -23,5 +21,4 @@ the_outcomes =
       bad_tick = λ κs a r r' s s'. only;
       is_past = λ κs a r r' s s'. only;
       response = λ κs a r r' s s'. only;
-      lateness = λ κs a r r' s s'. only;
     }

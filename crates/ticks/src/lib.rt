@@ -3,7 +3,6 @@ ghost use Rattle.std.specs.Prelude.{◌≡◌, ◌+◌, ◌≤◌};
 ghost use Rattle.rules.specs.Table.{greatest, plus};
 ghost use Rattle.rules.specs.Calls.{bad_tick};
 ghost use Rattle.rules.specs.Late.{is_past};
-ghost use Rattle.rules.specs.Bands.{lateness};
 ghost use Rattle.ticks.specs.Ticks.{sum, is_beyond, response_by};
 
 use rules::{Span, Tick};
@@ -66,12 +65,4 @@ pub fn response(at: Tick, due: Tick, deadline: Span) -> u64
         return 0;
     }
     deadline.0 - before.0
-}
-
-// Lateness: the ending tick less the deadline, negative when early. Both are bounded, so that the difference fits.
-pub fn lateness(at: Tick, due: Tick) -> i64
-    requires { (at.0 ≤ greatest.0) × (due.0 ≤ greatest.0) }
-    ensures { result ≡ lateness at due }
-{
-    at.0 as i64 - due.0 as i64
 }

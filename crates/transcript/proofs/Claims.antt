@@ -5,7 +5,6 @@ use Rattle.transcript.proofs.Opens.{opens_as_printed}
 use Rattle.transcript.proofs.Lines.{line_by_line}
 use Rattle.transcript.proofs.Fits.{lines_fit}
 use Rattle.transcript.proofs.Prints.{tape_refused_prints, table_refused_prints, tape_prints, written_prints}
-use Rattle.transcript.proofs.Reports.{reports_print}
 use Rattle.transcript.proofs.Decimals.{decimal_back}
 use Rattle.transcript.proofs.Ones.{one_opened, one_put, one_lined}
 
@@ -17,7 +16,6 @@ claims =
       table_refused_prints = table_refused_prints;
       tape_prints = tape_prints;
       written_prints = written_prints;
-      reports_print = reports_print;
       decimal_back = decimal_back;
       opens_as_printed = opens_as_printed;
       line_by_line = line_by_line;

@@ -13,8 +13,7 @@ use Rattle.rules.specs.declared.RecordRead.TheVariants.{Record, End, Refused}
 use Rattle.rules.specs.Table.{Table}
 use Rattle.rules.specs.Calls.{tick_of}
 use Rattle.rules.specs.Run.{Head, head_next, Reached}
-use Rattle.rules.specs.Bands.{Grid, banded, bands_from}
-use Rattle.rules.specs.Tape.{Records, after_record, records_at}
+use Rattle.rules.specs.Tape.{after_record, records_at}
 use Rattle.rules.specs.contracts.RecordRead.{the_type}
 use Rattle.rules.proofs.Reached.{reached_next}
 use Rattle.tape.proofs.Tapes.{records_step}
@@ -23,10 +22,8 @@ use Rattle.scheduler.specs.declared.Stepped.{Stepped}
 use Rattle.scheduler.specs.State.{state_of, Handed, told}
 use Rattle.scheduler.proofs.Back.{table_back, head_back, step_is}
 use Rattle.scheduler.proofs.Handed.{handed_by}
-use Rattle.bands.specs.Grids.{banded_of}
-use Rattle.bands.proofs.Counting.{banded_is}
 use Rattle.transcript.specs.declared.Run.{Run}
-use Rattle.transcript.specs.Pieces.{called_of, read_in, halt_of, ran_by, ran_of, grid_of}
+use Rattle.transcript.specs.Pieces.{called_of, read_in, halt_of, ran_by, ran_of}
 
 module _ (T : Table) (h : Head) (r : Reached T h) (tape : List ℕ) (at : ℕ) (preceding : Tick) where
   abbrev here : Run
@@ -36,19 +33,6 @@ module _ (T : Table) (h : Head) (r : Reached T h) (tape : List ℕ) (at : ℕ) (
   pub ran_is : ran_of tape here ≡ ran_by T h (records_at tape at preceding)
   unfolding ran_of
   ran_is = λ i. ran_by (table_back T h i) (head_back T h r i) (records_at tape at preceding)
-
-  -- and so is the grid filled
-  pub grid_is : (g : Grid) → grid_of tape here g ≡ bands_from T h.board g (records_at tape at preceding).calls
-  unfolding grid_of
-  grid_is g = λ i. bands_from (table_back T h i) (head_back T h r i).board g (records_at tape at preceding).calls
-
-  grid_read : (g : Grid) (x : RecordRead) → read_in tape here ≡ x → grid_of tape here g ≡ bands_from T h.board g (after_record at x (records_at tape)).calls
-  grid_read g x e = grid_is g ∙ ap (λ (z : Records). bands_from T h.board g z.calls) (records_step tape at preceding ∙ ap (λ z. after_record at z (records_at tape)) e)
-
-  no_more : (g : Grid) (x : RecordRead) → read_in tape here ≡ x → OneOf (1 ∷ 2 ∷ []) (tag_of the_type x) → g ≡ grid_of tape here g
-  no_more g (Record e n) q o = absurd (⊎_elim {C = ⊥} (λ (z : ◌≡◌ {A = ℕ} 0 1). omega arith) (λ (z : ◌≡◌ {A = ℕ} 0 2). omega arith) o)
-  no_more g End q o = sym (grid_read g End q)
-  no_more g (Refused k) q o = sym (grid_read g (Refused k) q)
 
   ran_read : (x : RecordRead) → read_in tape here ≡ x → ran_of tape here ≡ ran_by T h (after_record at x (records_at tape))
   ran_read x e = ran_is ∙ ap (ran_by T h) (records_step tape at preceding ∙ ap (λ z. after_record at z (records_at tape)) e)
@@ -68,16 +52,6 @@ goes T h r tape at preceding e n q =
     ∙ ran_is T (head_next T h e) (reached_next T h r e) tape n (tick_of e)
     ∙ sym (ran_read T h r tape at preceding (Record e n) q)
 
-counted : (T : Table) (h : Head) → Reached T h → (tape : List ℕ) (at : ℕ) (preceding : Tick) (e : Call) (n : ℕ) (g : Grid)
-    → read_in tape (record { state = state_of T h; at = at; preceding = preceding }) ≡ Record e n
-    → grid_of tape (called_of (record { state = state_of T h; at = at; preceding = preceding }) e n).run (banded_of (state_of T h) e g)
-    ≡ grid_of tape (record { state = state_of T h; at = at; preceding = preceding }) g
-unfolding called_of told
-counted T h r tape at preceding e n g q =
-    (λ i. grid_of tape (record { state = (step_is T h r e i).state; at = n; preceding = tick_of e }) (banded_is T h r e g i))
-    ∙ grid_is T (head_next T h e) (reached_next T h r e) tape n (tick_of e) (banded T h.board e g)
-    ∙ sym (grid_read T h r tape at preceding g (Record e n) q)
-
 pub ran_on : (tape : List ℕ) (x : Run) → Handed x.state → (e : Call) (n : ℕ) → read_in tape x ≡ Record e n → ran_of tape (called_of x e n).run ≡ ran_of tape x
 ran_on tape x d e n =
     handed_by (λ (s : State). let y : Run = record { state = s; at = x.at; preceding = x.preceding } in read_in tape y ≡ Record e n → ran_of tape (called_of y e n).run ≡ ran_of tape y)
@@ -89,16 +63,3 @@ pub ran_stops : (tape : List ℕ) (x : Run) → Handed x.state → (y : RecordRe
 ran_stops tape x d y q o =
     handed_by (λ (s : State). record { state = s; halt = halt_of x.at y } ≡ ran_of tape (record { state = s; at = x.at; preceding = x.preceding }))
     (λ T h r. halts T h r tape x.at x.preceding y q o) x.state d
-
--- ---- the same of the grid
-
-pub grid_on : (tape : List ℕ) (x : Run) → Handed x.state → (e : Call) (n : ℕ) (g : Grid) → read_in tape x ≡ Record e n
-    → grid_of tape (called_of x e n).run (banded_of x.state e g) ≡ grid_of tape x g
-grid_on tape x d e n g =
-    handed_by (λ (s : State). let y : Run = record { state = s; at = x.at; preceding = x.preceding } in read_in tape y ≡ Record e n → grid_of tape (called_of y e n).run (banded_of s e g) ≡ grid_of tape y g)
-    (λ T h r. counted T h r tape x.at x.preceding e n g) x.state d
-
-pub grid_stops : (tape : List ℕ) (x : Run) → Handed x.state → (y : RecordRead) → read_in tape x ≡ y → OneOf (1 ∷ 2 ∷ []) (tag_of the_type y) → (g : Grid) → g ≡ grid_of tape x g
-grid_stops tape x d y q o g =
-    handed_by (λ (s : State). g ≡ grid_of tape (record { state = s; at = x.at; preceding = x.preceding }) g)
-    (λ T h r. no_more T h r tape x.at x.preceding g y q o) x.state d

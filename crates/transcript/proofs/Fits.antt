@@ -16,14 +16,10 @@ use Rattle.rules.specs.declared.KernelCall.TheVariants.{NoCall, ActivateTask, Ch
 use Rattle.rules.specs.declared.Call.{Call}
 use Rattle.rules.specs.declared.RecordRead.{RecordRead}
 use Rattle.rules.specs.declared.RecordRead.TheVariants.{Record, End, Refused}
-use Rattle.rules.specs.declared.Named.{Named}
-use Rattle.rules.specs.declared.Named.TheVariants.{NoneNamed, TheLine, BothLines}
-use Rattle.rules.specs.declared.Verdict.{Verdict}
 use Rattle.rules.specs.Table.{Table}
-use Rattle.rules.specs.Tape.{Stop, at_end, at_refusal}
 use Rattle.rules.specs.Layer.{Board, answer}
 use Rattle.rules.specs.Run.{Head, Reached}
-use Rattle.rules.specs.Print.{ascii, decimal_in, decimal, spaced, ended, run_text, due_text, call_text, comma_tasks, tasks_text, answer_text, table_text, tape_text, stop_text}
+use Rattle.rules.specs.Print.{ascii, decimal_in, decimal, spaced, ended, run_text, due_text, call_text, comma_tasks, tasks_text, answer_text, tape_text}
 use Rattle.rules.proofs.Reached.{reached_keeps, reached_board}
 use Rattle.rules.proofs.Places.{places_suffice}
 use Rattle.scheduler.specs.declared.State.{State}
@@ -90,19 +86,6 @@ line_few t a h =
 pub stop_few : (n p : ℕ) → length (ended (tape_text n p)) ≤ line_most
 unfolding tape_text spaced
 stop_few n p = simp length-append (omega (arith, number_few n, number_few p))
-
-pub stop_text_few : (s : Stop) → length (stop_text s) ≤ line_most
-stop_text_few at_end = omega arith
-stop_text_few (at_refusal k p) = stop_few k p
-
-pub table_few : (v : Verdict) → length (ended (table_text v)) ≤ line_most
-unfolding table_text spaced
-table_few v = go v.lines
-  where
-    go : (l : Named) → length (ended (table_text (record { number = v.number; lines = l }))) ≤ line_most
-    go NoneNamed = simp length-append (omega (arith, number_few v.number))
-    go (TheLine i) = simp length-append (omega (arith, number_few v.number, number_few i))
-    go (BothLines i j) = simp length-append (omega (arith, number_few v.number, number_few i, number_few j))
 
 -- an answer has all its places
 answer_places : (s : State) → Handed s → (e : Call) → length (step_of s e).answer.late.tasks ≡ 32

@@ -4,7 +4,6 @@ pub mod Lines
 pub mod Fits
 pub mod Ends
 pub mod Prints
-pub mod Reports
 pub mod Decimals
 pub mod Ones
 pub mod Claims

@@ -11,7 +11,7 @@ pub record Outcomes : Type 0 where
   «open» : OneStated opens.Post
   open_line : OneStatedWith open_line.Post (λ κs s. s.0.now)
   next_line : OneStatedWith next_line.Post (λ κs s. s.1.1.0.now)
-  run_out : OneStatedWith run_out.Post (λ κs s. s.1.1.0.now)
+  run_out : OneStated run_out.Post
   halt_line : OneStatedWith halt_line.Post (λ κs s. s.0.now)
 
 pub the_outcomes : Outcomes
@@ -20,6 +20,6 @@ the_outcomes =
       «open» = λ κs a r r' s s' p q. only p.0 q.0;
       open_line = λ κs a r r' s s' p q. (only p.place q.place, only p.is q.is);
       next_line = λ κs a r r' s s'. one_lined a.0.now a.1.0 a.1.1.0.now a.1.1.1.0 r r' s.1.1.0.now s'.1.1.0.now;
-      run_out = λ κs a r r' s s' p q. (only p.ran q.ran, only p.grid q.grid);
+      run_out = λ κs a r r' s s' p q. only p.0 q.0;
       halt_line = λ κs a r r' s s' p q. (only p.place q.place, only p.is q.is);
     }

@@ -11,7 +11,7 @@ use Rattle.rules.specs.Outcome.{One, OneWith}
 use Rattle.rules.specs.Table.{Table, size, verdict, fine, check}
 use Rattle.rules.specs.Layer.{fresh}
 use Rattle.rules.specs.Tape.{zero_tick, tape_of, got, no, table_at, Records, holds, read_tape}
-use Rattle.rules.specs.Print.{decimal, ended, header_text, table_text, tape_text, calls_text, stop_text, longest, opening, opening_text, behind_text, transcript, Report, report_text}
+use Rattle.rules.specs.Print.{decimal, ended, header_text, table_text, tape_text, calls_text, stop_text, longest, opening, opening_text, behind_text, transcript}
 use Rattle.tape.specs.Claims.{NumberWithin, TableFits, RecordsFit}
 use Rattle.scheduler.specs.State.{Handed}
 use Rattle.print.specs.Buffers.{Put}
@@ -63,28 +63,6 @@ abbrev pub WrittenPrints : Type 0
 WrittenPrints =
     (T : Table) (es : List Call) → TableFits T → RecordsFit zero_tick es → check T ≡ fine → length (tape_of T es) ≤ longest
     → transcript (tape_of T es) ≡ ended header_text ++ calls_text T fresh es
-
--- ---- a program that reports something else of the calls
-
--- `says` is what it says of a table and the calls on it, `print` its whole print
-pub record ReportPrints (says : Report) (print : List ℕ → List ℕ) : Type 0 where
-  -- a tape refusal before the table is accepted, or 26, prints its one line only, and so does a refused table
-  pub tape_refused : (tape : List ℕ) (r p : ℕ) → OpensAs tape (BadTape r p) → print tape ≡ ended (tape_text r p)
-  pub table_refused : (tape : List ℕ) (v : Verdict) → OpensAs tape (BadTable v) → print tape ≡ ended (table_text v)
-  -- of an accepted table: the report of the records that are read, and a bad tape's line where one is refused
-  pub tape_prints :
-      (tape : List ℕ) (T : Table) (rs : Records) → length tape ≤ longest → read_tape tape ≡ holds T rs → check T ≡ fine
-      → print tape ≡ says T rs.calls ++ stop_text rs.stop
-  -- a table that is accepted and calls, written as a tape that isn't too long: the report of all the calls
-  pub written_prints :
-      (T : Table) (es : List Call) → TableFits T → RecordsFit zero_tick es → check T ≡ fine → length (tape_of T es) ≤ longest
-      → print (tape_of T es) ≡ says T es
-
--- so it is for every report
-abbrev pub ReportsPrint : Type 0
-ReportsPrint = (says : Report) → ReportPrints says (report_text says)
-
--- ---- numbers
 
 -- what digits stand for, highest first
 abbrev pub digits_value : List ℕ → ℕ
@@ -142,8 +120,6 @@ pub record Claims : Type 0 where
   -- the print of an accepted table, to the tape's end or a bad record
   pub tape_prints : TapePrints
   pub written_prints : WrittenPrints
-  -- and that of a report
-  pub reports_print : ReportsPrint
   -- what a printed number means
   pub decimal_back : DecimalBack
   pub opens_as_printed : OpensAsPrinted

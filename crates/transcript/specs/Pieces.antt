@@ -7,7 +7,6 @@ use Rattle.rules.specs.Calls.{tick_of}
 use Rattle.rules.specs.Table.{Table}
 use Rattle.rules.specs.Run.{Head, fresh_head, head_run}
 use Rattle.rules.specs.Tape.{zero_tick, record_at, Stop, at_end, at_refusal, Records, records_at}
-use Rattle.rules.specs.Bands.{Grid, bands_from}
 use Rattle.rules.specs.Print.{ended, answer_text, tape_text, records_text, opening}
 use Rattle.rules.specs.Print as print
 use Rattle.scheduler.specs.State.{state_of, table_of, head_of, Handed, step_of}
@@ -105,16 +104,6 @@ ran_by T h rs = record { state = state_of T (head_run T h rs.calls); halt = halt
 -- the records from there on
 unfoldable pub ran_of : List ℕ → Run → Ran
 ran_of tape x = ran_by (table_of x.state) (head_of x.state) (records_at tape x.at x.preceding)
-
--- the grid that their calls leave
-unfoldable pub grid_of : List ℕ → Run → Grid → Grid
-grid_of tape x g = bands_from (table_of x.state) (head_of x.state).board g (records_at tape x.at x.preceding).calls
-
--- a tape is run to where it stops, with grid `old` lent, which then is `new`
-pub record RunsOut (tape : List ℕ) (x : Run) (old : Grid) (r : Ran) (new : Grid) : Type 0 where
-  pub ran : r ≡ ran_of tape x
-  pub grid : new ≡ grid_of tape x old
-  pub handed : Handed r.state
 
 -- ---- all that is left
 

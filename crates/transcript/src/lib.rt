@@ -3,10 +3,9 @@ ghost use Rattle.std.specs.Prelude.{◌≡◌, ◌+◌, ◌≤◌, length};
 ghost use Rattle.rules.specs.Print.{unopened, count_above, opening_text};
 ghost use Rattle.scheduler.specs.State.{Handed};
 ghost use Rattle.print.specs.Buffers.{Put};
-ghost use Rattle.transcript.specs.Pieces.{opened_as, Opens, called_of, halt_of, halt_text, stop_line, RunsOut, buffer_room, line_most, NextLine, Piece};
+ghost use Rattle.transcript.specs.Pieces.{opened_as, Opens, called_of, halt_of, halt_text, stop_line, ran_of, buffer_room, line_most, NextLine, Piece};
 ghost use Rattle.transcript.specs.Claims.{Claims};
 
-use bands::Grid;
 use libc::STDOUT_FILENO;
 use print::ROOM;
 use rules::{
@@ -214,10 +213,10 @@ pub fn next_line(tape: &[u8], run: Run, out: &mut [u8; ROOM], at: usize) -> Line
     }
 }
 
-// The records from there on are read and run with no print, to the tape's end or a bad one. Each job that ends is counted in the lent grid.
-pub fn run_out(tape: &[u8], run: Run, grid: &mut Grid) -> Ran
+// The records from there on are read and run with no print, to the tape's end or a bad one.
+pub fn run_out(tape: &[u8], run: Run) -> Ran
     requires { Handed run.state }
-    ensures { RunsOut tape.now run grid.old result grid.new }
+    ensures { (result ≡ ran_of tape.now run) × Handed result.state }
 {
     let mut at = run;
     loop {
@@ -229,13 +228,8 @@ pub fn run_out(tape: &[u8], run: Run, grid: &mut Grid) -> Ran
                 halt: halt_of(read, at.at),
             };
         };
-        let r = bands::call(at.state, call, grid);
-        let state = r.state;
-        at = Run {
-            state,
-            at: next,
-            preceding: records::tick_of(call),
-        };
+        let r = run_call(at, call, next);
+        at = r.run;
     }
 }
 

@@ -19,11 +19,8 @@ returns c =
     let k = c.before.before.before in
     as_text (refused_text k.before.before.args.tape.now k.«open».result k.«open».ensures.0 c.before.before.match.keys2) c.open_line.ensures
 
-none-requires : tie.Need-none-requires
-none-requires c κs = search rules
-
 run-out-requires : tie.Need-run-out-requires
-run-out-requires c κs = c.before.before.before.before.«open».ensures.1 c.before.before.enum_told.given.1
+run-out-requires c κs = c.before.before.«open».ensures.1 c.enum_told.given.1
 
 lines-requires : tie.Need-lines-requires
 lines-requires c κs = search rules
@@ -34,10 +31,10 @@ halt-line-requires c κs = search rules
 returns-2 : tie.Need-returns-2
 returns-2 c =
     let r = c.before.before.before.before in
-    let e = r.before.before.before in
+    let e = r.before in
     let k = e.before.before in
     as_text
-    (accepted_text k.before.before.args.tape.now k.«open».result k.«open».ensures.0 e.enum_told.given.1 r.run_out.result r.run_out.ensures.ran)
+    (accepted_text k.before.before.args.tape.now k.«open».result k.«open».ensures.0 e.enum_told.given.1 r.run_out.result r.run_out.ensures.0)
     (then c.before.before.lines.ensures c.halt_line.ensures)
 
 pub text_spec : {M : Type 1} → statement M
@@ -48,7 +45,6 @@ text_spec =
     enum_told
     open-line-requires
     returns
-    none-requires
     run-out-requires
     lines-requires
     halt-line-requires

@@ -4,34 +4,30 @@ use mathlib.Core.Path.{◌≡◌, refl, sym, ap, ◌∙◌}
 use native.Mathlib.Omega.{arith}
 use borrow.Author.Rules.{rules}
 use lib.ListN.{length}
-use Rattle.rules.specs.declared.Tick.{Tick}
 use Rattle.rules.specs.declared.Call.{Call}
-use Rattle.rules.specs.Calls.{tick_of}
-use Rattle.rules.specs.Bands.{Grid}
 use Rattle.tape.proofs.Records.{forward}
-use Rattle.scheduler.specs.declared.Stepped.{Stepped}
-use Rattle.scheduler.specs.State.{Handed, step_of}
+use Rattle.scheduler.specs.State.{Handed}
+use Rattle.transcript.specs.declared.Called.{Called}
 use Rattle.transcript.specs.declared.Halt.{Halt}
 use Rattle.transcript.specs.declared.Run.{Run}
-use Rattle.transcript.specs.Pieces.{read_in, called_of, ran_of, grid_of}
-use Rattle.transcript.proofs.Ends.{ran_on, ran_stops, grid_on, grid_stops}
+use Rattle.transcript.specs.Pieces.{read_in, called_of, ran_of}
+use Rattle.transcript.proofs.Ends.{ran_on, ran_stops}
 use Rattle.transcript.proofs.run_out.Statement.{statement}
 use Rattle.transcript.proofs.run_out.Tie as tie
 
--- what is left to run from here is what was left from the start, and so is what is left to count
+-- what is left to run from here is what was left from the start
 abbrev invariant-loop : tie.invariant-loop
-invariant-loop tape grid₀ at₀ grid at = Handed at.state × (ran_of tape at ≡ ran_of tape at₀) × (grid_of tape at grid ≡ grid_of tape at₀ grid₀)
+invariant-loop tape at₀ at = Handed at.state × (ran_of tape at ≡ ran_of tape at₀)
 
 abbrev decreases-loop : tie.decreases-loop
-decreases-loop tape grid₀ at₀ grid at = length tape - at.at
+decreases-loop tape at₀ at = length tape - at.at
 
--- the run behind a record
-behind : (x : Run) (e : Call) (n : ℕ) (r : Stepped) (t : Tick) → r ≡ step_of x.state e → t ≡ tick_of e → record { state = r.state; at = n; preceding = t } ≡ (called_of x e n).run
+place : (x : Run) (e : Call) (n : ℕ) → (called_of x e n).run.at ≡ n
 unfolding called_of
-behind x e n r t p q = λ i. record { state = (p i).state; at = n; preceding = q i }
+place x e n = refl
 
 loop-holds : tie.Need-loop-init invariant-loop decreases-loop
-loop-holds c = (c.before.requires, refl, refl)
+loop-holds c = (c.before.requires, refl)
 
 read-record-requires : tie.Need-read-record-requires invariant-loop decreases-loop
 read-record-requires c κs = search rules
@@ -48,41 +44,32 @@ returns c =
     let x = k.before.loop.at in
     let tape = k.before.before.before.args.tape.now in
     let e : read_in tape x ≡ k.read_record.result = sym k.read_record.ensures in
-    let h = k.before.loop.invariant in
-    record {
-      ran = ap (λ (z : Halt). record { state = x.state; halt = z }) c.halt-of.ensures ∙ ran_stops tape x h.0 k.read_record.result e c.before.before.match.keys2 ∙ h.1;
-      grid = grid_stops tape x h.0 k.read_record.result e c.before.before.match.keys2 k.before.loop.grid ∙ h.2;
-      handed = h.0;
-    }
+    let h = k.before.loop.invariant in (
+      ap (λ (z : Halt). record { state = x.state; halt = z }) c.halt-of.ensures ∙ ran_stops tape x h.0 k.read_record.result e c.before.before.match.keys2 ∙ h.1,
+      h.0,
+    )
 
-call-requires : tie.Need-call-requires invariant-loop decreases-loop
-call-requires c κs = search rules
-
-tick-of-requires : tie.Need-tick-of-requires invariant-loop decreases-loop
-tick-of-requires c κs = search rules
+run-call-requires : tie.Need-run-call-requires invariant-loop decreases-loop
+run-call-requires c κs = search rules
 
 loop-less : tie.Need-loop-smaller invariant-loop decreases-loop
 loop-less c =
-    let g = c.before.before.before.before.before.read.given in
-    let k = c.before.before.before.before.before.before.before in
+    let k = c.before.before.before.before.before in
     let x = k.before.loop.at in
+    let g = c.before.before.before.read.given in
     let f = forward k.before.before.before.args.tape.now x.at x.preceding g.0.0 g.0.1.0 (sym k.read_record.ensures ∙ g.1) in
-    omega (arith, f.0, f.1)
+    let n : c.before.run_call.result.run.at ≡ g.0.1.0 = ap (λ (z : Called). z.run.at) c.before.run_call.ensures.0 ∙ place x g.0.0 g.0.1.0 in
+    omega (arith, f.0, f.1, n)
 
 loop-again : tie.Need-loop-preserved invariant-loop decreases-loop
 loop-again c =
-    let g = c.before.before.before.before.before.read.given in
-    let k = c.before.before.before.before.before.before.before in
+    let k = c.before.before.before.before.before in
     let x = k.before.loop.at in
     let tape = k.before.before.before.args.tape.now in
-    let r = c.before.before.call in
+    let g = c.before.before.before.read.given in
+    let r = c.before.run_call.ensures in
     let h = k.before.loop.invariant in
-    let q : read_in tape x ≡ _ = sym k.read_record.ensures ∙ g.1 in
-    let run = behind x g.0.0 g.0.1.0 r.result c.tick_of.result r.ensures.0.0 c.tick_of.ensures in (
-      r.ensures.0.1,
-      ap (ran_of tape) run ∙ ran_on tape x h.0 g.0.0 g.0.1.0 q ∙ h.1,
-      (λ i. grid_of tape (run i) (r.ensures.1 i)) ∙ grid_on tape x h.0 g.0.0 g.0.1.0 k.before.loop.grid q ∙ h.2,
-    )
+    (r.1, ap (λ (z : Called). ran_of tape z.run) r.0 ∙ ran_on tape x h.0 g.0.0 g.0.1.0 (sym k.read_record.ensures ∙ g.1) ∙ h.1)
 
 pub run_out_spec : {M : Type 1} → statement M
 run_out_spec =
@@ -95,7 +82,6 @@ run_out_spec =
     enum-known-read
     halt-of-requires
     returns
-    call-requires
-    tick-of-requires
+    run-call-requires
     loop-less
     loop-again)

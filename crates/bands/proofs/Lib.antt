@@ -1,4 +1,0 @@
-pub mod Laws
-pub mod Counting
-pub mod Claims
-mod Outcomes

@@ -1,2 +1,0 @@
--- What is claimed of tape_bands' print.
-pub mod Claims
