@@ -1,5 +1,7 @@
 // What a board's code in Rattle calls: the check of lent lines, the calls on the scheduler state of a recorder head, updated where it stands, why a task waits, and the table of lent lines on tape.
 // The bodies are thin: what they pass on is by value, and covered.
+#![tactic(auto)]
+
 ghost use Rattle.std.specs.Prelude.{◌≡◌};
 ghost use Rattle.rules.specs.declared.Call.TheVariants.{Wait, Activate, Terminate, Chain};
 ghost use Rattle.rules.specs.Tape.{TableWrote};

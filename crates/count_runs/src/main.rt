@@ -1,4 +1,6 @@
 // The counts: they stand still at 4294967295, and the greatest response is kept. Nobody makes that many calls, so monitors are set close to it.
+#![tactic(auto)]
+
 use monitor::Monitor;
 use print::ROOM;
 use rules::{Late, Tally};

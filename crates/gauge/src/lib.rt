@@ -1,4 +1,6 @@
 // For the benchmark outside/cost: tapes and numbers gone through. Each function gives one number that depends on all that was done.
+#![tactic(auto)]
+
 use rules::{Answer, Call, Choice, NumberRead, Opening, RecordRead, Written};
 
 // A byte as a number.

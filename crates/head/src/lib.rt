@@ -1,4 +1,6 @@
 // The scheduler of one recorder head, for C: the same calls as the board's, over structs without enums.
+#![tactic(auto)]
+
 ghost use Rattle.std.specs.Prelude.{◌≡◌, map, ◌≤◌, max, drop, replicate};
 ghost use Rattle.rules.specs.Words.{places};
 ghost use Rattle.rules.specs.declared.Call.TheVariants.{Wait, Activate, Terminate, Chain};
@@ -18,7 +20,7 @@ use table::TaskTable;
 
 // A pending job.
 #[repr(C)]
-#[derive(Drop)]
+#[derive(Clone, Copy)]
 pub struct HeadJob {
     pub due: Tick,
     pub task: u8,
@@ -27,7 +29,7 @@ pub struct HeadJob {
 
 // The scheduler state of a recorder head.
 #[repr(C)]
-#[derive(Drop)]
+#[derive(Clone, Copy)]
 pub struct HeadState {
     pub table: TaskTable,
     pub last: Tick,
@@ -38,7 +40,7 @@ pub struct HeadState {
 
 // What a call returns: the result, whether a job runs, its task and deadline (else 0), the kernel call (0 none, 1 ActivateTask, 2 ChainTask, 3 TerminateTask), the task that it names (else 0), and the newly late jobs.
 #[repr(C)]
-#[derive(Drop)]
+#[derive(Clone, Copy)]
 pub struct HeadAnswer {
     pub result: u8,
     pub runs: bool,
@@ -51,7 +53,7 @@ pub struct HeadAnswer {
 
 // What the check answers: its number, how many lines are named, and these (else 0).
 #[repr(C)]
-#[derive(Drop)]
+#[derive(Clone, Copy)]
 pub struct HeadVerdict {
     pub number: u8,
     pub named: u8,
@@ -61,7 +63,7 @@ pub struct HeadVerdict {
 
 // What the check gives: the state, which counts as handed out where the number is 0, and its answer.
 #[repr(C)]
-#[derive(Drop)]
+#[derive(Clone, Copy)]
 pub struct HeadChecked {
     pub state: HeadState,
     pub verdict: HeadVerdict,
@@ -69,7 +71,7 @@ pub struct HeadChecked {
 
 // Why a task's first pending job does or does not run: the result, which is 0, or 3 for a task without a line; the reason (0 refused, 1 none is pending, 2 it runs, 3 an earlier deadline is running, 4 the same deadline was there first); and for 3 and 4 task and deadline of the running job (else 0).
 #[repr(C)]
-#[derive(Drop)]
+#[derive(Clone, Copy)]
 pub struct HeadWhy {
     pub result: u8,
     pub reason: u8,
@@ -78,7 +80,7 @@ pub struct HeadWhy {
 }
 
 // What a call gives: the next state, and its answer.
-#[derive(Drop)]
+#[derive(Clone, Copy)]
 struct HeadStepped {
     state: HeadState,
     answer: HeadAnswer,

@@ -1,4 +1,6 @@
 // The list of pending jobs by value: an array of jobs in the order of the list, and a count.
+#![tactic(auto)]
+
 ghost use Rattle.std.specs.Prelude.{◌≡◌, [], true, cond, ◌≤◌, ◌<◌, take, drop};
 ghost use Rattle.rules.specs.Words.{places, only};
 ghost use Rattle.jobs.specs.Listed.{blank_job, is_earlier, goes_before, view, pack, Shaped, Sorted, is_first_in, insert_due, released_job, release_first, is_of, lead_of, lead_with, pending_of, first_in, late_in, newly_late_in};
@@ -7,14 +9,14 @@ ghost use Rattle.jobs.specs.Inside.{aim_of, enter_at, leave_at, replace_at, late
 use rules::{Job, Late, PLACES, Phase, Tick};
 
 // Places at and past the count hold a blank job.
-#[derive(Drop)]
+#[derive(Clone, Copy)]
 pub struct JobList {
     pub jobs: [Job; PLACES],
     pub count: usize,
 }
 
 // Which job leads a list: none, or the first.
-#[derive(Drop)]
+#[derive(Clone, Copy)]
 pub enum Lead {
     NoJob,
     Leads(Job),
@@ -61,7 +63,7 @@ fn goes_before(job: Job, other: Job) -> bool
 // ---- what changes a list: nothing is tested behind a change, so that the array is copied once in and once out
 
 // Where a call works in the list: among how many jobs, and what it puts there.
-#[derive(Drop)]
+#[derive(Clone, Copy)]
 struct Aim {
     many: usize,
     put: Job,

@@ -1,4 +1,6 @@
 // A model of the kernel's dispatcher: of the released jobs the highest priority runs, and within it the first released.
+#![tactic(auto)]
+
 ghost use Rattle.std.specs.Prelude.{◌≡◌};
 ghost use Rattle.jobs.specs.Listed.{view};
 ghost use Rattle.kernel.specs.Dispatch.{takes_over, better_of, dispatch_of};
@@ -9,14 +11,14 @@ use rules::{Job, PLACES, Phase};
 use table::TaskTable;
 
 // A place in the list, or none.
-#[derive(Drop)]
+#[derive(Clone, Copy)]
 pub enum Found {
     At(usize),
     Nothing,
 }
 
 // The best job so far: where it stands, and its priority.
-#[derive(Drop)]
+#[derive(Clone, Copy)]
 struct Best {
     found: Found,
     top: u8,

@@ -1,5 +1,7 @@
 // The check and the calls: the words are read from standard input.
-use libc::STDIN_FILENO;
+#![tactic(auto)]
+
+use streams::STDIN_FILENO;
 
 fn main() {
     let mut words = io::large_buffer();

@@ -1,4 +1,6 @@
 // For programs, which hold a table's lines and a state by value: they are lent to the board's check, its table writer and its calls, and come back.
+#![tactic(auto)]
+
 ghost use Rattle.std.specs.Prelude.{◌≡◌, ◌≤◌, take};
 ghost use Rattle.rules.specs.declared.Call.TheVariants.{Wait, Activate, Terminate, Chain};
 ghost use Rattle.rules.specs.Words.{places};

@@ -1,4 +1,6 @@
 // Monitoring: what is counted of each task.
+#![tactic(auto)]
+
 ghost use Rattle.std.specs.Prelude.{◌≡◌, cond, max};
 ghost use Rattle.rules.specs.Counts.{no_tallies, up, late_more, ended_more, on_task, with_late};
 ghost use Rattle.monitor.specs.Tallies.{counts, tasks_of};
@@ -10,7 +12,7 @@ const MOST: u32 = 4294967295;
 
 // A tally for each task number.
 #[repr(C)]
-#[derive(Drop)]
+#[derive(Clone, Copy)]
 pub struct Monitor {
     pub tallies: [Tally; PLACES],
 }

@@ -1,4 +1,6 @@
 // The layer in words: tables and calls, each printed with its answer. For runs only.
+#![tactic(auto)]
+
 ghost use Rattle.scheduler.specs.State.{Handed};
 ghost use Rattle.play.specs.Run.{Kept};
 
@@ -11,7 +13,7 @@ use scheduler::State;
 use table::TaskTable;
 
 // How far the lines went: the state, whether calls may be made on it, and whether an answer stands alone on its line.
-#[derive(Drop)]
+#[derive(Clone, Copy)]
 struct Run {
     state: State,
     on: bool,

@@ -1,4 +1,6 @@
 // Lines as document 01 prints them, put into a lent buffer.
+#![tactic(auto)]
+
 ghost use Rattle.std.specs.Prelude.{[], ◌∷◌, ◌≤◌, take, drop};
 ghost use Rattle.rules.specs.Print.{decimal, spaced, ended, call_text, comma_tasks, late_text, answer_text, header_text, table_text, tape_text};
 ghost use Rattle.print.specs.Buffers.{Put, choice_text, named_text};

@@ -1,14 +1,16 @@
 // What is printed for many tapes: their bytes are read from standard input, in words.
+#![tactic(auto)]
+
 ghost use Rattle.std.specs.Prelude.{◌≤◌};
 
-use libc::{STDIN_FILENO, STDOUT_FILENO};
 use rules::Opening;
 use script::ROOM;
+use streams::{STDIN_FILENO, STDOUT_FILENO};
 
 // ---- a long print, summed up
 
 // Lines, bytes, and the sum of each byte times 1 plus its place modulo 251, modulo 4294967296.
-#[derive(Drop)]
+#[derive(Clone, Copy)]
 struct Sum {
     lines: u64,
     bytes: u64,

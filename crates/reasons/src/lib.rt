@@ -1,4 +1,6 @@
 // Q-1 in words: a line that says why a task waits, and what the program tape_why prints for a tape.
+#![tactic(auto)]
+
 ghost use Rattle.rules.specs.Print.{spaced};
 ghost use Rattle.rules.specs.WhyPrint.{reason_words, why_words, why_text, why_lines, why_transcript};
 ghost use Rattle.scheduler.specs.State.{table_of, head_of, Handed};
@@ -6,10 +8,10 @@ ghost use Rattle.print.specs.Buffers.{Put};
 ghost use Rattle.reasons.specs.Words.{waits_text};
 ghost use Rattle.reasons.specs.Claims.{Claims};
 
-use libc::STDOUT_FILENO;
 use print::ROOM;
 use rules::{Opening, Reason, Tick, Why};
 use scheduler::State;
+use streams::STDOUT_FILENO;
 
 // ---- a task's line: each part is put at a place, and gives the place behind it
 

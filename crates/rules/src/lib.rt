@@ -1,4 +1,6 @@
 // The data that document 01 speaks of. What it says of them stands in specs/.
+#![tactic(auto)]
+
 ghost use Rattle.rules.specs.Claims.{Claims};
 
 // How many lines a table holds, how many jobs a list, how many late tasks an answer and how many tallies a state.
@@ -6,17 +8,17 @@ pub const PLACES: usize = 32;
 
 // A position in time.
 #[repr(C)]
-#[derive(Drop)]
+#[derive(Clone, Copy)]
 pub struct Tick(pub u64);
 
 // A length of time. It is only ever added to a tick, never compared with one.
 #[repr(C)]
-#[derive(Drop)]
+#[derive(Clone, Copy)]
 pub struct Span(pub u64);
 
 // A line of the task table. Its place from 0 is its task number.
 #[repr(C)]
-#[derive(Drop)]
+#[derive(Clone, Copy)]
 pub struct Line {
     pub deadline: Span,
     pub priority: u8,
@@ -24,7 +26,7 @@ pub struct Line {
 }
 
 // The lines that a refused table's answer names: none, the line, or both.
-#[derive(Drop)]
+#[derive(Clone, Copy)]
 pub enum Named {
     NoneNamed,
     TheLine(u8),
@@ -32,21 +34,21 @@ pub enum Named {
 }
 
 // What the check answers: its number, and the lines named.
-#[derive(Drop)]
+#[derive(Clone, Copy)]
 pub struct Verdict {
     pub number: u8,
     pub lines: Named,
 }
 
 // Whether the layer holds a pending job back, or the kernel has it.
-#[derive(Drop)]
+#[derive(Clone, Copy)]
 pub enum Phase {
     Delayed,
     Released,
 }
 
 // A pending job as a list keeps it. Its activation tick is its deadline less its task's D. (`Job` of specs/Jobs also says that tick, and more.)
-#[derive(Drop)]
+#[derive(Clone, Copy)]
 pub struct Job {
     pub due: Tick,
     pub task: u8,
@@ -54,7 +56,7 @@ pub struct Job {
 }
 
 // A call: time moves (tick), activate, terminate, chain.
-#[derive(Drop)]
+#[derive(Clone, Copy)]
 pub enum Call {
     Wait(Tick),
     Activate(Tick, u8),
@@ -63,7 +65,7 @@ pub enum Call {
 }
 
 // The kernel call that a call made.
-#[derive(Drop)]
+#[derive(Clone, Copy)]
 pub enum KernelCall {
     NoCall,
     ActivateTask(u8),
@@ -72,7 +74,7 @@ pub enum KernelCall {
 }
 
 // What runs: nothing, or a job by its task and deadline.
-#[derive(Drop)]
+#[derive(Clone, Copy)]
 pub enum Choice {
     Idle,
     Runs(u8, Tick),
@@ -80,14 +82,14 @@ pub enum Choice {
 
 // Newly late jobs: their count, and their tasks in 32 places, unused places 0.
 #[repr(C)]
-#[derive(Drop)]
+#[derive(Clone, Copy)]
 pub struct Late {
     pub count: u8,
     pub tasks: [u8; PLACES],
 }
 
 // What a call returns.
-#[derive(Drop)]
+#[derive(Clone, Copy)]
 pub struct Answer {
     pub result: u8,
     pub running: Choice,
@@ -97,7 +99,7 @@ pub struct Answer {
 
 // What is counted of a task: late jobs, ended jobs, and the greatest response.
 #[repr(C)]
-#[derive(Drop)]
+#[derive(Clone, Copy)]
 pub struct Tally {
     pub late: u32,
     pub ended: u32,
@@ -105,14 +107,14 @@ pub struct Tally {
 }
 
 // What reading a number on tape gives: its value and the place after it, or the refusal's number.
-#[derive(Drop)]
+#[derive(Clone, Copy)]
 pub enum NumberRead {
     Value { value: u64, next: usize },
     Refused(u8),
 }
 
 // What reading a record on tape gives: the call with its tick and the place after it, the end of the tape, or the refusal's number.
-#[derive(Drop)]
+#[derive(Clone, Copy)]
 pub enum RecordRead {
     Record { call: Call, next: usize },
     End,
@@ -120,21 +122,21 @@ pub enum RecordRead {
 }
 
 // What reading a line of the table on tape gives: the line and the place after it, or the refusal's number.
-#[derive(Drop)]
+#[derive(Clone, Copy)]
 pub enum LineRead {
     Whole { line: Line, next: usize },
     Refused(u8),
 }
 
 // What writing to a buffer gives: the count of the bytes written, or the refusal's number.
-#[derive(Drop)]
+#[derive(Clone, Copy)]
 pub enum Written {
     Count(usize),
     Refused(u8),
 }
 
 // How a tape opens: its table is accepted, or refused with the check's answer, or the tape is bad, with the refusal's number and the place.
-#[derive(Drop)]
+#[derive(Clone, Copy)]
 pub enum Opening {
     Accepted,
     BadTable(Verdict),
@@ -142,7 +144,7 @@ pub enum Opening {
 }
 
 // Why a task's first pending job does or does not run: none is pending, it runs, an earlier deadline is running, or the same deadline was there first. The running job is named by its task and deadline.
-#[derive(Drop)]
+#[derive(Clone, Copy)]
 pub enum Reason {
     NonePending,
     ItRuns,
@@ -151,7 +153,7 @@ pub enum Reason {
 }
 
 // What is answered to why a task waits: the reason, or the refusal's number.
-#[derive(Drop)]
+#[derive(Clone, Copy)]
 pub enum Why {
     Because(Reason),
     Refused(u8),

@@ -1,4 +1,6 @@
 // The scheduler by value: the check that hands out a state, and the calls. Each promises what the rule-book gives.
+#![tactic(auto)]
+
 ghost use Rattle.std.specs.Prelude.{◌≡◌, ◌≤◌, true, cond, eqb};
 ghost use Rattle.rules.specs.declared.Call.TheVariants.{Wait, Activate, Terminate, Chain};
 ghost use Rattle.rules.specs.declared.Phase.TheVariants.{Delayed};
@@ -18,7 +20,7 @@ use rules::{
 use table::TaskTable;
 
 // The scheduler state of a recorder head.
-#[derive(Drop)]
+#[derive(Clone, Copy)]
 pub struct State {
     pub table: TaskTable,
     pub last: Tick,
@@ -27,21 +29,21 @@ pub struct State {
 }
 
 // What the check gives: a fresh state (an empty one of no lines after a refusal), and its answer.
-#[derive(Drop)]
+#[derive(Clone, Copy)]
 pub struct Checked {
     pub state: State,
     pub verdict: Verdict,
 }
 
 // What a call gives: the next state, and its answer.
-#[derive(Drop)]
+#[derive(Clone, Copy)]
 pub struct Stepped {
     pub state: State,
     pub answer: Answer,
 }
 
 // An activation that is asked for: its tick, its task, the limit of its line, and when it would be due.
-#[derive(Drop)]
+#[derive(Clone, Copy)]
 struct Activation {
     at: Tick,
     task: u8,

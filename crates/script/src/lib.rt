@@ -1,4 +1,6 @@
 // Tables, calls and bytes read from text, so that a run says in words what is called.
+#![tactic(auto)]
+
 ghost use Rattle.std.specs.Prelude.{◌≤◌, length};
 
 use rules::{Call, Line, PLACES, Span, Tick};
@@ -7,7 +9,7 @@ use table::TaskTable;
 // ---- numbers
 
 // A number in a text, and the place behind it.
-#[derive(Drop)]
+#[derive(Clone, Copy)]
 pub struct Found {
     pub value: u64,
     pub next: usize,
@@ -128,7 +130,7 @@ pub fn task_at(text: &[u8], from: usize) -> u8 {
 const MOST: usize = 255;
 
 // Lines by their places, and how many there are.
-#[derive(Drop)]
+#[derive(Clone, Copy)]
 pub struct Lines {
     pub lines: [Line; MOST],
     pub count: usize,

@@ -1,10 +1,12 @@
 // Lines of the runs: put into a buffer, and sent to standard output in one write.
+#![tactic(auto)]
+
 ghost use Rattle.print.specs.Buffers.{Put};
 ghost use Rattle.show.specs.Text.{tally_text};
 
-use libc::STDOUT_FILENO;
 use print::ROOM;
 use rules::Tally;
+use streams::STDOUT_FILENO;
 
 // What is counted of a task: late jobs, ended jobs, greatest response.
 pub fn tally(out: &mut [u8; ROOM], at: usize, tally: Tally) -> usize

@@ -1,9 +1,11 @@
 // Numbers, records and tables of a tape in words, each printed with what the reader or the writer answers. For runs only.
+#![tactic(auto)]
+
 ghost use Rattle.std.specs.Prelude.{◌≤◌, length};
 
-use libc::STDOUT_FILENO;
 use rules::{Call, Line, LineRead, NumberRead, PLACES, RecordRead, Tick, Written};
 use script::{Lines, ROOM};
+use streams::STDOUT_FILENO;
 use tape::{MOST_LINES, TableRead};
 
 // ---- answers in words

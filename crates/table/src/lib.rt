@@ -1,4 +1,6 @@
 // The task table by value: its lines by task number, and the check.
+#![tactic(auto)]
+
 ghost use Rattle.std.specs.Prelude.{◌≡◌, ◌||◌, [], ◌≤◌};
 ghost use Rattle.rules.specs.Words.{places};
 ghost use Rattle.rules.specs.Table.{no_line, fine, breaks, check, ranges_from, limits, pairs_from};
@@ -12,7 +14,7 @@ const LONGEST: u64 = 1000000000;
 
 // Up to 32 lines, and how many there are; of more the count alone decides. Places at and past the count are blank in a table that is kept.
 #[repr(C)]
-#[derive(Drop)]
+#[derive(Clone, Copy)]
 pub struct TaskTable {
     pub lines: [Line; PLACES],
     pub count: usize,
@@ -37,7 +39,7 @@ pub fn line_of(table: TaskTable, task: u8) -> Line
 }
 
 // The lines at two tasks' places.
-#[derive(Drop)]
+#[derive(Clone, Copy)]
 pub struct LinePair {
     pub one: Line,
     pub other: Line,

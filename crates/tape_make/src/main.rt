@@ -1,7 +1,9 @@
 // A text from standard input made into a tape on standard output; or one sentence on standard error.
+#![tactic(auto)]
+
 ghost use Rattle.std.specs.Prelude.{◌≡◌, length};
 
-use libc::{STDERR_FILENO, STDIN_FILENO, STDOUT_FILENO};
+use streams::{STDERR_FILENO, STDIN_FILENO, STDOUT_FILENO};
 use tape::MOST_BYTES;
 use words::Made;
 

@@ -1,5 +1,7 @@
 // The program of document 01: a tape from standard input, and each decision to standard output.
-use libc::{STDERR_FILENO, STDIN_FILENO};
+#![tactic(auto)]
+
+use streams::{STDERR_FILENO, STDIN_FILENO};
 use tape::MOST_BYTES;
 
 fn main() {

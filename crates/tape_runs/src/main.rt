@@ -1,5 +1,7 @@
 // Numbers, records and tables on tape, and whole tapes: the words are read from standard input.
-use libc::STDIN_FILENO;
+#![tactic(auto)]
+
+use streams::STDIN_FILENO;
 
 fn main() {
     let mut words = io::large_buffer();

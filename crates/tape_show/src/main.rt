@@ -1,5 +1,7 @@
 // A tape from standard input shown as a text on standard output.
-use libc::{STDERR_FILENO, STDIN_FILENO};
+#![tactic(auto)]
+
+use streams::{STDERR_FILENO, STDIN_FILENO};
 use tape::MOST_BYTES;
 
 fn main() {

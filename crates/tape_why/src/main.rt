@@ -1,5 +1,7 @@
 // Q-1's program: a tape from standard input is run, and why each task waits goes to standard output.
-use libc::{STDERR_FILENO, STDIN_FILENO};
+#![tactic(auto)]
+
+use streams::{STDERR_FILENO, STDIN_FILENO};
 use tape::MOST_BYTES;
 
 fn main() {

@@ -1,4 +1,6 @@
 // Ticks: the one sum of a tick and a length of time, and what is asked of ticks.
+#![tactic(auto)]
+
 ghost use Rattle.std.specs.Prelude.{◌≡◌, ◌+◌, ◌≤◌};
 ghost use Rattle.rules.specs.Table.{greatest, plus};
 ghost use Rattle.rules.specs.Calls.{bad_tick};

@@ -1,4 +1,6 @@
 // What document 01's program prints for a tape: read, checked, run and printed, piece by piece.
+#![tactic(auto)]
+
 ghost use Rattle.std.specs.Prelude.{◌≡◌, ◌+◌, ◌≤◌, length};
 ghost use Rattle.rules.specs.Print.{unopened, count_above, opening_text};
 ghost use Rattle.scheduler.specs.State.{Handed};
@@ -6,19 +8,19 @@ ghost use Rattle.print.specs.Buffers.{Put};
 ghost use Rattle.transcript.specs.Pieces.{opened_as, Opens, called_of, halt_of, halt_text, stop_line, ran_of, buffer_room, line_most, NextLine, Piece};
 ghost use Rattle.transcript.specs.Claims.{Claims};
 
-use libc::STDOUT_FILENO;
 use print::ROOM;
 use rules::{
     Answer, Call, Choice, KernelCall, Named, NumberRead, Opening, PLACES, RecordRead, Tick, Verdict,
 };
 use scheduler::State;
+use streams::STDOUT_FILENO;
 use tape::{MOST_BYTES, TableRead};
 
 // How many bytes are kept free for a line. None is longer (specs/Claims, LinesFit).
 const LINE: usize = 1024;
 
 // How far a tape was run: the state, the place of the next record, and the tick of the one before it.
-#[derive(Drop)]
+#[derive(Clone, Copy)]
 pub struct Run {
     pub state: State,
     pub at: usize,
@@ -26,21 +28,21 @@ pub struct Run {
 }
 
 // A tape's opening, and the run in front of its first record. Where the table isn't accepted there is nothing to run.
-#[derive(Drop)]
+#[derive(Clone, Copy)]
 pub struct Opened {
     pub answer: Opening,
     pub run: Run,
 }
 
 // What a record's call answered, and the run behind the record.
-#[derive(Drop)]
+#[derive(Clone, Copy)]
 struct Called {
     answer: Answer,
     run: Run,
 }
 
 // Whether there may be more, the place behind what was put, and the run.
-#[derive(Drop)]
+#[derive(Clone, Copy)]
 pub struct Lined {
     pub more: bool,
     pub next: usize,
@@ -48,14 +50,14 @@ pub struct Lined {
 }
 
 // Where a run stops: at the tape's end, or at a bad record, with the refusal's number and the place.
-#[derive(Drop)]
+#[derive(Clone, Copy)]
 pub enum Halt {
     AtEnd,
     AtRefusal { number: u8, place: usize },
 }
 
 // A tape run to where it stops: the state that its calls left, and what stopped it.
-#[derive(Drop)]
+#[derive(Clone, Copy)]
 pub struct Ran {
     pub state: State,
     pub halt: Halt,

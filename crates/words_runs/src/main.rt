@@ -1,9 +1,11 @@
 // Small texts and tapes from standard input, each printed with what is made of it.
 // 'make:' and a text, with / for a line's end, \ for a carriage return, ~ for a tab: the tape's bytes, and whether its own text makes it again; or the sentence.
 // 'show:' and a tape's bytes: its text. A line of a text or a byte that starts with '255*' stands there 255 times.
+#![tactic(auto)]
+
 ghost use Rattle.std.specs.Prelude.{◌≤◌};
 
-use libc::{STDIN_FILENO, STDOUT_FILENO};
+use streams::{STDIN_FILENO, STDOUT_FILENO};
 use tape::MOST_BYTES;
 use words::{Cursor, Made, Trouble};
 
