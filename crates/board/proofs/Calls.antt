@@ -1,7 +1,7 @@
--- The board's calls as thin calls (`Thin1.antt`, `Thin2.antt`): all that one says of itself is which call of the rule-book it is. Assumes nothing.
+-- The board's calls as thin calls (`Thin1.antt`, `Thin2.antt`): all that one says of itself is which call of the rule-book it is. And what a step by value gives is what a call on a lent state leaves. Assumes nothing.
 use Prim.Native.Nat.{ℕ}
 use mathlib.Core.Path.{◌≡◌, ap, ◌∙◌}
-use mir.Syntax.{Name, w8}
+use mir.Syntax.{Callee, w8}
 use Rattle.rules.specs.declared.Answer.{Answer}
 use Rattle.rules.specs.declared.Call.{Call}
 use Rattle.rules.specs.declared.Tick.{Tick}
@@ -28,7 +28,7 @@ left s e r ok g =
     }
 
 -- a call at a tick
-abbrev pub at_tick : Name → (Tick → Call) → thin1.Call stepped tick
+abbrev pub at_tick : Callee → (Tick → Call) → thin1.Call stepped tick
 at_tick step e = record {
   key = step;
   Ok = λ s at. Handed s;
@@ -38,7 +38,7 @@ at_tick step e = record {
 }
 
 -- a call at a tick, of a task
-abbrev pub at_task : Name → (Tick → ℕ → Call) → thin2.Call stepped tick (word w8)
+abbrev pub at_task : Callee → (Tick → ℕ → Call) → thin2.Call stepped tick (word w8)
 at_task step e = record {
   key = step;
   Ok = λ s at n. Handed s;

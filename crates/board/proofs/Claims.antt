@@ -31,6 +31,8 @@ steps_go T z es =
 -- lent calls answer and leave what steps by value do
 went : (s : State) (es : List Call) (told : List Answer) (t : State) → Went Left s es told t → (told ≡ answered s es) × (t ≡ state_after s es)
 went s [] [] t w = (refl, w)
+went s [] (a ∷ told) t w = elim w [ ]
+went s (e ∷ es) [] t w = elim w [ ]
 went s (e ∷ es) (a ∷ told) t w =
     let l = w.1 in
     let rest = went w.0 es told t w.2 in

@@ -2,14 +2,16 @@
 --     Data         the struct.        row, ty, val       its row, its type in MIR, and its machine value
 --     Pair         a struct of a state and an answer: what a step gives.        pair       the same as a declared type
 -- Assumes nothing.
-use mathlib.Core.Path.{◌≡◌}
+use mathlib.Core.Path.{◌≡◌, refl}
 use mathlib.Core.List.{List, [], ◌∷◌}
 use mir.Syntax.{Ty, Sym}
 use mir.Val.{Val}
 use denote.RattleType.{RattleType, Denots}
 use denote.Memory.{lone}
 use denote.Struct.Struct.{Plains}
+use denote.Struct.Cover.{Cover}
 use denote.Struct.Field.{rows}
+use denote.Struct.Values.{Values}
 use denote.Struct.Declared.{Declared, fields, field}
 use denote.Struct.Declared as declared
 use denote.Struct.Laws as LL
@@ -39,10 +41,12 @@ pub record Pair (S P : Data) : Type 2 where
   pub state : D → S.type.D
   pub answer : D → P.type.D
   pub one : (x y : D) → ◌≡◌ {A = Denots (rows (field S.type ∷ field P.type ∷ []))} (S.type.to (state x), (P.type.to (answer x), tt)) (S.type.to (state y), (P.type.to (answer y), tt)) → x ≡ y
+  pub cover : Cover D (Values (field S.type ∷ field P.type ∷ [])) (λ d. (state d, (answer d, tt)))
+  pub propositions : (v : Values (field S.type ∷ field P.type ∷ [])) → IsProp (cover.Ghost v)
 
 module _ {S P : Data} (N : Pair S P) where
   abbrev pub pair : Declared
-  pair = record { name = N.name; args = []; parts = field S.type ∷ field P.type ∷ []; D = N.D; to = λ d. (S.type.to (N.state d), (P.type.to (N.answer d), tt)); to_one = N.one }
+  pair = record { name = N.name; args = []; types = []; parts = field S.type ∷ field P.type ∷ []; D = N.D; to = λ d. (S.type.to (N.state d), (P.type.to (N.answer d), tt)); to_one = N.one; as_values = λ d. (N.state d, (N.answer d, tt)); to_is = λ d. refl; cover = N.cover; propositions = N.propositions }
 
   abbrev pub pair_laws : LL.Laws pair
   pair_laws = (LL.field_laws S.type S.laws S.lowers, (LL.field_laws P.type P.laws P.lowers, tt))

@@ -19,30 +19,32 @@ use lib.Seq.{take-suc}
 use lib.Dec.{T, ltb, lit<}
 use borrow.Author.Tests.{ltb-true, ltb-false}
 use seplogic.Ra.Ura.{Ura}
-use seplogic.Ra.TreeShare.{full_share}
-use mir.Syntax.{Name, Ty, Fn, Body as Code, named, imm, w64, ty_int, ty_bool, ty_ptr, ty_ref, deref, field, place, copy, int, local, value_local, seq, assign, call, return, block, loop, cond, skip, exit, rv_opd, op2, lt, mul, add, offset, unsigned}
+use base.Fraction.{full_share}
+use mir.Syntax.{Callee, Ty, Fn, Body as Code, named, imm, w64, ty_int, ty_bool, ty_ptr, ty_ref, deref, field, place, copy, int, local, value_local, seq, assign, call, return, block, loop, cond, skip, exit, rv_opd, op2, lt, mul, add, offset, unsigned}
 use mir.Val.{Val, vint, vptr, vbool}
 use base.Logic.{SProp, ent, emp, via, fst∗, snd∗, ex_e, id⊢}
-use base.Fml.{GName, Lft, Share, Fml, ftrue, flft, fat, froom, fdies, fshr_bor}
+use base.Fml.{Lft, Share, Fml, ftrue, flft, fat, froom, fdies, fhide}
 use prog.Wp.{Env, Out, Wp, WpFn, Tables, after_seq, after_block, after_turn, at_return}
 use types.Logic.{Logic, sem}
 use contract.Monad.{fact}
 use types.Kit.{Item, Sq, runs, any_q, at_ret, ‵, raw, ◌⊛◌, ⋆, some, later, ◌$◌, ◌∵◌, !, qed, by, move, keep, drop, use0, use1, split, join, pick, rewrite, fsplit, fjoin, suffices, frame, await, done}
 use types.Run.{look, look_raw, init, store, forget, stop, hop, fld, from, load, lit, of_opd, bin, and_then, no_more, land, assigns, assigns_last, first, blocks, stays, leaves_loop, loops, again, Below, exec, returns, enter, alloc1, alloc0, params1, pass1, pass0, free1, free0}
 use types.Part.{whole, sub, look_in}
-use types.Share.{arr_parts}
 use sound.WpLaws.{fm_of, WpFn-mono}
-use denote.RattleType.{owns}
+use denote.RattleType.{RowLaws, owns}
 use denote.Laws.{Is, shows}
-use denote.Memory.{mem, shares, pointee}
+use denote.Memory.{mem, pointee}
 use denote.Plain.{UInt, uint_Tells, uint_Makes, uint_Lawful}
 use denote.Index.{place_is, elem_out, elem_back, looks_slice, shuts_slice}
 use denote.Builtin.{SliceRefOf}
 use denote.Ref.{Bor}
-use denote.Slice.{slice_ty, slice_val, ShrSlice, Room, shr_slice_vals, shr_slice_Tells, shr_slice_copy}
+use denote.Slice.{elements_shared, slice_ty, slice_val, ShrSlice, Room, shr_slice_vals, shr_slice_Tells, shr_slice_copy}
 use denote.Signature.{plain}
 use denote.Steps.{only, owned, peeks, heard, nothing}
 use denote.Struct.Laws as LL
+use denote.Struct.Struct.{Struct, Struct-row_laws}
+use denote.Struct.Recorded.{Recorded-row_laws}
+use denote.Struct.Declared.{shape}
 use denote.Triple.Statement.{Contract, Triple}
 use denote.Triple.Call.{calls_at}
 use denote.Triple.Entry.{on_entry}
@@ -54,10 +56,10 @@ use Rattle.board.proofs.Data.{Data, row, ty, val, vals}
 
 -- what is said of one reader. `begin` ensures `start` of the count, `few` ensures `reads` of it, `push` ensures `put`, `finish` ensures `Gives` of the copy and its result; `read` ensures `Says` of the lines and its result
 pub record Reader (L B R : Data) : Type 1 where
-  pub begin : Name
-  pub few : Name
-  pub push : Name
-  pub finish : Name
+  pub begin : Callee
+  pub few : Callee
+  pub push : Callee
+  pub finish : Callee
   pub start : ℕ → B.type.D
   pub reads : ℕ → ℕ
   pub put : B.type.D → L.type.D → B.type.D
@@ -148,6 +150,8 @@ module _ {L B R : Data} (c : Reader L B R) where
   function = record {
     lifetimes = 1;
     outlives = [];
+    ty_params = [];
+    givens = 0;
     params = 1;
     locals = local (ty R) value_local ∷ local slice value_local ∷ local (ty B) value_local ∷ local (ty_int w64) value_local ∷ local (ty_int w64) value_local ∷ local (ty_int w64) value_local ∷ local ty_bool value_local ∷ local (ty_int w64) value_local ∷ local ty_ptr value_local ∷ local (ty L) value_local ∷ [];
     body = seq (assign (place 5 []) (rv_opd (copy (place 1 (field 1 ∷ [])))))
@@ -159,6 +163,10 @@ module _ {L B R : Data} (c : Reader L B R) where
 
   abbrev stayed : Stays ended.signature.params ended.kept
   stayed = (stay_none_slice (0 ∷ []) tt (plain (λ _. row L)) yes, tt)
+
+  -- what a `&` to a line holds can be had twice
+  shared : RowLaws (row L)
+  shared = Recorded-row_laws (Struct (shape L.type)) L.type.D L.type.to L.type.to_one (Struct-row_laws (shape L.type) (LL.copy_row_laws L.type.parts L.copies))
 
   module _ {M : Type 1} {𝓤 : Ura M} (𝓛 : Logic 𝓤) where
     open 𝓛 use {H}
@@ -205,7 +213,7 @@ module _ {L B R : Data} (c : Reader L B R) where
     goes_finish t is-t =
         qed 𝓛 [] ∵ nothing ! $ nothing ! $ owned ! (row B) (Is (row B)) (LL.makes B.type B.plain 𝓛) t _ is-t $ fjoin ! $ move ! (1 ∷ 0 ∷ []) $ join ! $ nothing ! $ move ! (1 ∷ 0 ∷ []) $ done !
 
-    module _ (κ : Lft) (q : Share) (b o : ℕ) (γ : GName) (ys : List L.type.D) (room : Room (row L) (length ys)) where
+    module _ (κ : Lft) (q : Share) (b o : ℕ) (ys : List L.type.D) (room : Room (row L) (length ys)) where
       abbrev x : Bor (List L.type.D)
       x = record { ref_ptr = (b, o); now = ys }
 
@@ -215,9 +223,9 @@ module _ {L B R : Data} (c : Reader L B R) where
       abbrev Own : Fml
       Own = (ShrSlice (named 0) κ (row L)).own_val x (v ∷ [])
 
-      -- the fractured borrow of the elements
+      -- what a `&` to each of the elements holds
       abbrev Lent : Fml
-      Lent = fshr_bor κ (λ s. (arr_parts (shares (row L)) (length ys)).part s ys b o)
+      Lent = fhide (elements_shared (row L) ys b o κ)
 
       abbrev Post : Val → SProp 𝓤
       Post = (walk_of 𝓛 ended stayed (clauses 𝓤)).post (((κ, tt), (q, tt), tt, (x, tt), (v ∷ [], tt)), tt)
@@ -253,7 +261,7 @@ module _ {L B R : Data} (c : Reader L B R) where
           abbrev E : Env 𝓤 H
           E = (ty R, l₀) ∷ (slice, l₁) ∷ (ty B, l₂) ∷ (ty_int w64, l₃) ∷ (ty_int w64, l₄) ∷ (ty_int w64, l₅) ∷ (ty_bool, l₆) ∷ (ty_int w64, l₇) ∷ (ty_ptr, l₈) ∷ (ty L, l₉) ∷ []
 
-          -- what is had where a turn begins: the token, the fractured borrow, the locals, the last first, and what the slice owns
+          -- what is had where a turn begins: the token, the borrow, the locals, the last first, and what the slice owns
           abbrev I : At → List (Item 𝓤)
           I a = ‵ (flft κ q) ∷ ‵ Lent ∷ ‵ (froom (ty L) l₉ 0) ∷ ‵ (fdies (ty L) l₉) ∷ ‵ (froom ty_ptr l₈ 0) ∷ ‵ (fdies ty_ptr l₈) ∷ ‵ (froom (ty_int w64) l₇ 0) ∷ ‵ (fdies (ty_int w64) l₇) ∷ ‵ (froom ty_bool l₆ 0) ∷ ‵ (fdies ty_bool l₆)
               ∷ ‵ (froom (ty_int w64) l₅ 0) ∷ ‵ (fdies (ty_int w64) l₅) ∷ ‵ (fat full_share (ty_int w64) l₄ 0 (vint w64 a.i)) ∷ ‵ (fdies (ty_int w64) l₄) ∷ ‵ (fat full_share (ty_int w64) l₃ 0 (vint w64 n)) ∷ ‵ (fdies (ty_int w64) l₃)
@@ -275,9 +283,9 @@ module _ {L B R : Data} (c : Reader L B R) where
               assigns ! (bin ! (load ! (from ! (stop !)) (look ! 12 refl)) (lit ! c.small) (record { fits = place_fits })) (from ! (stop !)) (init ! 6 refl (tt, record { fits = place_fits })) $
               assigns ! (bin ! (load ! (from ! (fld ! refl (stop !))) (look_in ! 18 (sub ! 0 refl (whole !)))) (load ! (from ! (stop !)) (look ! 6 refl)) tt) (from ! (stop !)) (init ! 4 refl (tt, tt)) $
               rewrite ! 4 (λ (p : ℕ). ‵ (fat full_share ty_ptr l₈ 0 (vptr b p))) (sym (place_is size o a.i)) refl $
-              move ! (1 ∷ 0 ∷ []) $ looks_slice ! tt (row L) (Is (row L)) (shows 𝓛 (row L)) (vals L) (LL.tells L.type L.laws) (LL.copy L.type L.copies 𝓛) ys b o (λ q'.
+              move ! (1 ∷ 0 ∷ []) $ looks_slice ! tt (row L) (LL.copied L.type L.copies 𝓛) ys b o (λ q'.
               elem_out ! (row L) (Is (row L)) (shows 𝓛 (row L)) (vals L) (LL.tells L.type L.laws) q' ys a.i c.some_line b o small (λ g.
-              -- [the line; what it owns; the others; what shuts; the fractured borrow; _9; …]
+              -- [the line; what it owns; the others; what shuts; the borrow; _9; …]
               assigns ! (of_opd ! (load ! (from ! (hop ! (look ! 7 refl) (stop !))) (look_raw ! 0 refl))) (from ! (stop !)) (init ! 5 refl ((LL.lawful L.type L.laws 𝓛).typed line _ g).0) $
               elem_back ! (row L) q' ys a.i c.some_line (vals L line) b o small $ shuts_slice ! tt (row L) q' ys b o $
               -- `push`
@@ -357,9 +365,9 @@ module _ {L B R : Data} (c : Reader L B R) where
             rewrite ! 13 (λ (us : List Val). ‵ (fat full_share (ty_int w64) l₃ 0 (only us))) (uint_Tells w64 m (u' ∷ []) is') refl $ drop ! $
             rewrite ! 12 (λ (k : ℕ). ‵ (fat full_share (ty_int w64) l₃ 0 (vint w64 k))) m-is refl $
             assigns ! (of_opd ! (lit ! tt)) (from ! (stop !)) (init ! 10 refl (tt, record { fits = lit< tt })) $ forget ! 8 refl $
-            -- the slice is Copy: one copy of what it owns is kept for the exit, and of the other the fractured borrow is kept
-            move ! (21 ∷ []) $ fsplit ! $ use1 𝓛 (‵ Own ⊛ ‵ Own) ((shr_slice_copy 𝓛 (named 0) κ (row L)).twice x (v ∷ [])) $ split ! $ fsplit ! $ drop ! $ fsplit ! $ drop ! $
-            -- [the fractured borrow; what the slice owns; true; the locals; the token]
+            -- the slice is Copy: one copy of what it owns is kept for the exit, and of the other the borrow is kept
+            move ! (21 ∷ []) $ fsplit ! $ use1 𝓛 (‵ Own ⊛ ‵ Own) ((shr_slice_copy 𝓛 (named 0) κ (row L) shared).twice x (v ∷ [])) $ split ! $ fsplit ! $ drop ! $
+            -- [the borrow; what the slice owns; true; the locals; the token]
             move ! (23 ∷ []) $ split ! $ keep ! (0 ∷ 2 ∷ 5 ∷ 6 ∷ 7 ∷ 8 ∷ 9 ∷ 10 ∷ 11 ∷ 12 ∷ 13 ∷ 14 ∷ 15 ∷ 16 ∷ 17 ∷ 18 ∷ 19 ∷ 20 ∷ 21 ∷ 22 ∷ 23 ∷ 24 ∷ 3 ∷ []) $
             around l₀ l₁ l₂ l₃ l₄ l₅ l₆ l₇ l₈ l₉ (record { i = 0; t = r; le = omega arith; so = e; is = subst (Is (row B) r) (LL.tells B.type B.laws r (u ∷ []) is) is })))))))))))))))))))
 
@@ -368,4 +376,4 @@ module _ {L B R : Data} (c : Reader L B R) where
     reads_lines 𝓣 known-begin known-few known-push known-finish =
         walk_Meets 𝓛 ended stayed (Goes-none_slice 𝓛 1 (0 ∷ []) tt (plain (λ _. row L)) yes, tt) (clauses 𝓤) (WpFn 𝓤 H 𝓣.C 𝓣.Λ function) (WpFn-mono 𝓤 H 𝓛.laws 𝓣 function)
         (walked 𝓛 ended stayed (clauses 𝓤) (WpFn 𝓤 H 𝓣.C 𝓣.Λ function) (λ κs. (shr_slice_vals, tt)) (λ κs. (shr_slice_Tells (named 0) κs.0 (row L), tt))
-        (λ κs qs bounds a g are. via 𝓤 _ (fst∗ 𝓤 _ (emp 𝓤)) (walk κs.0 qs.0 a.0.ref_ptr.0 a.0.ref_ptr.1 0 a.0.now are.0.0.1 𝓣 known-begin known-few known-push known-finish)))
+        (λ κs qs bounds a g are. via 𝓤 _ (fst∗ 𝓤 _ (emp 𝓤)) (walk κs.0 qs.0 a.0.ref_ptr.0 a.0.ref_ptr.1 a.0.now are.0.0.1 𝓣 known-begin known-few known-push known-finish)))

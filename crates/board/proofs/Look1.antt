@@ -1,20 +1,20 @@
 -- A thin question of 1 plain parameter, proved once for all of them: `fn question(s: &State, a) -> R { ask(*s, a) }`.
 --     Ask          what is said of one question: what `ask` requires and ensures. `question` requires and ensures the same
---     looks-up     `question`'s MIR meets its contract, from what `ask` ensures. The borrow is looked into, the state is copied out and passed to `ask`
+--     looks_up     `question`'s MIR meets its contract, from what `ask` ensures. The borrow is looked into, the state is copied out and passed to `ask`
 -- It is over any struct for the state and any result, and names no field of them: a new one changes nothing here.
 -- Assumes nothing.
 use mathlib.Core.Path.{refl}
 use Prim.Native.Nat.{ℕ}
 use mathlib.Core.List.{[], ◌∷◌, List}
 use seplogic.Ra.Ura.{Ura}
-use mir.Syntax.{Name, Fn, named, imm, ty_ref, deref, place, copy, local, value_local, seq, assign, call, return, rv_opd}
+use mir.Syntax.{Callee, Fn, named, imm, ty_ref, deref, place, copy, local, value_local, seq, assign, call, return, rv_opd}
 use mir.Val.{Val, vptr}
 use base.Logic.{SProp, ent, emp, snd∗, ex_e, id⊢}
-use base.Fml.{GName, Lft, Share, ftrue, flft}
+use base.Fml.{Lft, Share, ftrue, flft}
 use prog.Wp.{WpFn, Tables}
 use types.Logic.{Logic, sem}
 use contract.Monad.{fact}
-use types.Kit.{‵, raw, ◌⊛◌, ⋆, some, later, ◌$◌, ◌∵◌, !, qed, by, move, keep, drop, use0, use1, split, join, pick, fsplit, fsplit3, fjoin, suffices, frame, await, done}
+use types.Kit.{‵, raw, ◌⊛◌, ⋆, some, later, ◌$◌, ◌∵◌, !, qed, by, move, keep, drop, use0, use1, split, join, pick, fsplit, fjoin, suffices, frame, await, done}
 use types.Run.{look, look_raw, init, forget, stop, hop, from, load, of_opd, and_then, no_more, land, assigns, returns, enter, alloc1, alloc0, params1, pass1, pass0, free1, free0}
 use sound.WpLaws.{fm_of, WpFn-mono}
 use denote.RattleType.{owns}
@@ -39,7 +39,7 @@ use Rattle.board.proofs.Relay.{Result}
 
 -- what is said of one question. `ask` requires `Ok` and ensures `Gives` of its result; `question` requires and ensures the same of what lies behind the reference
 pub record Ask (S : Data) (A₁ : Arg) (R : Result) : Type 1 where
-  pub key : Name
+  pub key : Callee
   pub Ok : S.type.D → A₁.row.Denot → Type 0
   pub Gives : S.type.D → A₁.row.Denot → R.row.Denot → Type 0
 
@@ -65,6 +65,8 @@ module _ {S : Data} {A₁ : Arg} {R : Result} (c : Ask S A₁ R) where
   function = record {
     lifetimes = 1;
     outlives = [];
+    ty_params = [];
+    givens = 0;
     params = 2;
     locals = local R.mir value_local ∷ local (ty_ref (named 0) imm (pointee (row S).written)) value_local ∷ local A₁.mir value_local ∷ local (ty S) value_local ∷ [];
     body = seq (assign (place 3 []) (rv_opd (copy (place 1 (deref (ty S) ∷ []))))) (seq (call c.key (copy (place 3 []) ∷ copy (place 2 []) ∷ []) (place 0 [])) return);
@@ -76,7 +78,7 @@ module _ {S : Data} {A₁ : Arg} {R : Result} (c : Ask S A₁ R) where
   module _ {M : Type 1} {𝓤 : Ura M} (𝓛 : Logic 𝓤) where
     open 𝓛 use {H}
 
-    module _ (κ : Lft) (q : Share) (b o : ℕ) (γ : GName) (h : S.type.D) (x₁ : A₁.row.Denot) (is₁ : Is A₁.row x₁ (A₁.val x₁ ∷ [])) (ok : c.Ok h x₁) where
+    module _ (κ : Lft) (q : Share) (b o : ℕ) (h : S.type.D) (x₁ : A₁.row.Denot) (is₁ : Is A₁.row x₁ (A₁.val x₁ ∷ [])) (ok : c.Ok h x₁) where
       abbrev x : Bor S.type.D × (A₁.row.Denot × Unit {0})
       x = (record { ref_ptr = (b, o); now = h }, (x₁, tt))
 
@@ -110,21 +112,21 @@ module _ {S : Data} {A₁ : Arg} {R : Result} (c : Ask S A₁ R) where
             qed 𝓛 ((‵ (flft κ q) ⊛ ‵ ftrue) ∷ ‵ (owns (ShrRef (named 0) κ (row S) ∷ A₁.row ∷ []) x at) ∷ []) ∵ enter ! 𝓣.C 𝓣.Λ function (vptr b o ∷ A₁.val x₁ ∷ []) _ $
             alloc1 ! (λ l₀. alloc1 ! (λ l₁. alloc1 ! (λ l₂. alloc1 ! (λ l₃. alloc0 ! $ params1 ! $
             pass1 ! (init ! 4 refl (tt, tt)) $ pass1 ! (init ! 2 refl (A₁.typed 𝓛 x₁ is₁)) $ pass0 ! $
-            move ! (9 ∷ []) $ fsplit ! $ fsplit3 ! $ drop ! $ move ! (11 ∷ []) $ split ! $ move ! (3 ∷ 0 ∷ []) $
-            looks ! tt (row S) (Is (row S)) (shows 𝓛 (row S)) (vals S) (LL.tells S.type S.laws) (LL.copy S.type S.copies 𝓛) h b o (λ q' vs.
+            move ! (9 ∷ []) $ fsplit ! $ fsplit ! $ drop ! $ move ! (10 ∷ []) $ split ! $ move ! (2 ∷ 0 ∷ []) $
+            looks ! tt (row S) (LL.copied S.type S.copies 𝓛).opens h b o (λ q' vs.
             spelt ! (row S) (Is (row S)) (shows 𝓛 (row S)) (vals S) (LL.tells S.type S.laws) q' h vs b o $
             move ! (1 ∷ []) $ peeks ! (row S) (Is (row S)) (shows 𝓛 (row S)) h (vals S h) (λ was. move ! (1 ∷ 0 ∷ []) $
-            -- [a share of the state's cell; what it owns; what shuts; the fractured borrow; true; res; the other parameters'; the locals, the last first]
-            assigns ! (of_opd ! (load ! (from ! (hop ! (look ! 11 refl) (stop !))) (look_raw ! 0 refl))) (from ! (stop !)) (init ! 7 refl ((LL.lawful S.type S.laws 𝓛).typed h _ was).0) $
+            -- [a share of the state's cell; what it owns; what shuts; the borrow; true; the other parameters'; the locals, the last first]
+            assigns ! (of_opd ! (load ! (from ! (hop ! (look ! 10 refl) (stop !))) (look_raw ! 0 refl))) (from ! (stop !)) (init ! 6 refl ((LL.lawful S.type S.laws 𝓛).typed h _ was).0) $
             shuts ! tt (row S) q' h (vals S h) b o $
-            -- [the token; the fractured borrow; true; res; the other parameters'; the locals]
+            -- [the token; the borrow; true; the other parameters'; the locals]
             use0 𝓛 (raw ((Asked 𝓛).pre to_ask)) (goes_ask was) $
-            calls_at ! (fm_of 𝓤 H 𝓛.laws 𝓣) (Asked 𝓛) known to_ask (and_then ! (load ! (from ! (stop !)) (look ! 6 refl)) (and_then ! (load ! (from ! (stop !)) (look ! 8 refl)) (no_more !))) (λ u.
+            calls_at ! (fm_of 𝓤 H 𝓛.laws 𝓣) (Asked 𝓛) known to_ask (and_then ! (load ! (from ! (stop !)) (look ! 5 refl)) (and_then ! (load ! (from ! (stop !)) (look ! 7 refl)) (no_more !))) (λ u.
             use1 𝓛 (later (some (λ (r : R.row.Denot). (‵ ftrue ⊛ ‵ (R.row.own_val r (u ∷ []))) ⊛ raw (ensured 𝓛 ask_ended (ask_clauses 𝓤) tt (h, (x₁, tt)) tt r)))) (id⊢ 𝓤 _) $ await ! tt $ pick ! (λ r.
             split ! $ move ! (1 ∷ []) $ use1 𝓛 (raw (fact 𝓤 (c.Gives h x₁ r))) (ask_said r) $ heard ! (c.Gives h x₁ r) (λ e. split ! $ drop ! $
-            peeks ! R.row (Is R.row) (shows 𝓛 R.row) r (u ∷ []) (λ is. land ! (from ! (stop !)) (init ! 12 refl (R.typed 𝓛 r u is)) $
-            returns ! (look ! 12 refl) $ forget ! 6 refl $ forget ! 8 refl $ forget ! 10 refl $ forget ! 12 refl $
-            move ! (12 ∷ 13 ∷ []) $ free1 ! $ move ! (10 ∷ 11 ∷ []) $ free1 ! $ move ! (8 ∷ 9 ∷ []) $ free1 ! $ move ! (6 ∷ 7 ∷ []) $ free1 ! $ free0 ! $
+            peeks ! R.row (Is R.row) (shows 𝓛 R.row) r (u ∷ []) (λ is. land ! (from ! (stop !)) (init ! 11 refl (R.typed 𝓛 r u is)) $
+            returns ! (look ! 11 refl) $ forget ! 5 refl $ forget ! 7 refl $ forget ! 9 refl $ forget ! 11 refl $
+            move ! (11 ∷ 12 ∷ []) $ free1 ! $ move ! (9 ∷ 10 ∷ []) $ free1 ! $ move ! (7 ∷ 8 ∷ []) $ free1 ! $ move ! (5 ∷ 6 ∷ []) $ free1 ! $ free0 ! $
             keep ! (0 ∷ 1 ∷ []) $ by ! (exits r u e)))))))))))
 
     goes_all : AllGo 𝓛 1 ended.signature.params ended.kept stayed
@@ -135,4 +137,4 @@ module _ {S : Data} {A₁ : Arg} {R : Result} (c : Ask S A₁ R) where
         walk_Meets 𝓛 ended stayed goes_all (clauses 𝓤) (WpFn 𝓤 H 𝓣.C 𝓣.Λ function) (WpFn-mono 𝓤 H 𝓛.laws 𝓣 function)
         (walked 𝓛 ended stayed (clauses 𝓤) (WpFn 𝓤 H 𝓣.C 𝓣.Λ function)
         (λ κs. (shr_vals, ((λ y. A₁.val y ∷ []), tt))) (λ κs. (shr_Tells (named 0) κs.0 (row S), (A₁.tells, tt)))
-        (λ κs qs bounds a g are. needs 𝓤 (c.Ok a.0.now a.1.0) _ (λ ok. walk κs.0 qs.0 a.0.ref_ptr.0 a.0.ref_ptr.1 0 a.0.now a.1.0 are.1.0 ok 𝓣 known)))
+        (λ κs qs bounds a g are. needs 𝓤 (c.Ok a.0.now a.1.0) _ (λ ok. walk κs.0 qs.0 a.0.ref_ptr.0 a.0.ref_ptr.1 a.0.now a.1.0 are.1.0 ok 𝓣 known)))

@@ -10,20 +10,22 @@ use mathlib.Core.List.{[], ◌∷◌, List}
 use lib.Dec.{T as Holds}
 use lib.ListN.{length}
 use seplogic.Ra.Ura.{Ura}
-use mir.Syntax.{Name, Fn, Ty, named, erased, imm, mut, w8, ty_int, ty_ref, deref, field, place, copy, local, value_local, seq, assign, call, return, addr_of, aggregate}
+use mir.Syntax.{Callee, Fn, Ty, named, erased, imm, mut, w8, ty_int, ty_ref, deref, field, place, copy, local, value_local, seq, assign, call, return, addr_of, aggregate}
 use mir.Val.{Val, WT, has_ty}
 use base.Logic.{SProp, ent, sep, emp, via, fst∗, snd∗, ex_e, id⊢}
-use base.Fml.{GName, Lft, Share, Fml, ftrue, flft}
+use base.Fml.{GName, Lft, Share, Fml, ftrue, flft, fsep, fbor}
 use prog.Wp.{WpFn, Tables}
 use types.Logic.{Logic, sem}
 use contract.Monad.{fact}
 use types.Kit.{‵, raw, ◌⊛◌, ⋆, some, later, ◌$◌, ◌∵◌, !, qed, by, move, keep, drop, use1, use2, use3, split, split3, join, pick, fsplit, fjoin, feq_l, suffices, frame, await, done}
 use types.Run.{look, init, forget, stop, hop, fld, from, load, addr, and_then, no_more, land, assigns, returns, enter, alloc1, alloc0, params1, pass1, pass0, free1, free0}
+use types.SemTy.{Body, Arr}
+use types.Hole.{Holey}
 use types.Part.{agg, whole, sub, look_in}
 use sound.WpLaws.{fm_of, WpFn-mono}
 use denote.RattleType.{RattleType, owns}
 use denote.Laws.{Is, shows}
-use denote.Memory.{pointee}
+use denote.Memory.{mem, pointee}
 use denote.Builtin.{u8, SliceRefOf, SliceRefMutOf}
 use denote.Ref.{Bor, MutBor}
 use denote.Slice.{slice_ty, slice_val, MutSlice, ShrSlice, Room, finally, shr_slice_vals, mut_slice_vals, shr_slice_Tells, mut_slice_Tells}
@@ -46,8 +48,8 @@ pub record Result : Type 2 where
 
 -- what is said of one relay. `copy` ensures `Copies` of the lines and its result; `put` ensures `Puts` of the copy, the buffer's bytes at entry, its result and the bytes in the end; `write` ensures `Says`
 pub record Relay (L C : Data) (R : Result) : Type 1 where
-  pub copying : Name
-  pub putting : Name
+  pub copying : Callee
+  pub putting : Callee
   pub Copies : List L.type.D → C.type.D → Type 0
   pub Puts : C.type.D → List ℕ → R.row.Denot → List ℕ → Type 0
   pub Says : List L.type.D → List ℕ → R.row.Denot → List ℕ → Type 0
@@ -85,6 +87,8 @@ module _ {L C : Data} {R : Result} (d : Relay L C R) where
   function = record {
     lifetimes = 2;
     outlives = [];
+    ty_params = [];
+    givens = 0;
     params = 2;
     locals = local R.mir value_local ∷ local (slice_ty (ty_ref (named 0) imm (pointee (row L).written))) value_local ∷ local (slice_ty (ty_ref (named 1) mut (ty_int w8))) value_local ∷ local (ty C) value_local ∷ local (ty_ref erased mut (ty_int w8)) value_local ∷ local (slice_ty (ty_ref erased mut (ty_int w8))) value_local ∷ [];
     body = seq (call d.copying (copy (place 1 []) ∷ []) (place 3 []))
@@ -100,11 +104,11 @@ module _ {L C : Data} {R : Result} (d : Relay L C R) where
   module _ {M : Type 1} {𝓤 : Ura M} (𝓛 : Logic 𝓤) where
     open 𝓛 use {H, A}
 
-    module _ (κ κ' : Lft) (q q' : Share) (b o : ℕ) (γ : GName) (ys : List L.type.D) (room : Room (row L) (length ys)) (b' o' : ℕ) (γ' : GName) (old : List ℕ) (room' : Room u8 (length old)) where
-      abbrev lines : MutBor (List L.type.D)
-      lines = record { ref_ptr = (b, o); ghost_name = γ; now = ys }
+    module _ (κ κ' : Lft) (q q' : Share) (b o : ℕ) (ys : List L.type.D) (room : Room (row L) (length ys)) (b' o' : ℕ) (γ' : GName) (old : List ℕ) (room' : Room u8 (length old)) where
+      abbrev lines : Bor (List L.type.D)
+      lines = record { ref_ptr = (b, o); now = ys }
 
-      abbrev buf : Bor (List ℕ)
+      abbrev buf : MutBor (List ℕ)
       buf = record { ref_ptr = (b', o'); ghost_name = γ'; now = old }
 
       -- their machine values
@@ -114,7 +118,7 @@ module _ {L C : Data} {R : Result} (d : Relay L C R) where
       abbrev v' : Val
       v' = slice_val (b', o') (length old)
 
-      abbrev x : Bor (List L.type.D) × (Bor (List ℕ) × Unit {0})
+      abbrev x : Bor (List L.type.D) × (MutBor (List ℕ) × Unit {0})
       x = (lines, (buf, tt))
 
       abbrev at : List Val × (List Val × Unit {0})
@@ -148,10 +152,14 @@ module _ {L C : Data} {R : Result} (d : Relay L C R) where
           qed 𝓛 (‵ (flft κ' q') ∷ ‵ ((row C).own_val c (u ∷ [])) ∷ ‵ Held ∷ []) ∵ nothing ! $ move ! (3 ∷ 0 ∷ []) $ fjoin ! $ move ! (2 ∷ 0 ∷ []) $ fjoin ! $
           nothing ! $ move ! (2 ∷ 0 ∷ []) $ join ! $ join ! $ frame ! $ done !
 
+      -- the buffer's borrow, which `put` hands back closed
+      abbrev Closed : Fml
+      Closed = fbor κ' (Body (Arr (Holey (mem u8)) (length old)) b' o' γ')
+
       exits : (r : R.row.Denot) (w : Val) (new : List ℕ) → d.Says ys old r new → length new ≡ length old
-          → ent 𝓤 (⋆ 𝓛 (‵ (flft κ q) ∷ ‵ (flft κ' q') ∷ ‵ (finally u8 γ' new) ∷ ‵ (R.row.own_val r (w ∷ [])) ∷ [])) (Post w)
+          → ent 𝓤 (⋆ 𝓛 (‵ (flft κ q) ∷ ‵ (flft κ' q') ∷ ‵ (fsep (finally u8 γ' new) Closed) ∷ ‵ (R.row.own_val r (w ∷ [])) ∷ [])) (Post w)
       exits r w new e l =
-          qed 𝓛 (‵ (flft κ q) ∷ ‵ (flft κ' q') ∷ ‵ (finally u8 γ' new) ∷ ‵ (R.row.own_val r (w ∷ [])) ∷ []) ∵
+          qed 𝓛 (‵ (flft κ q) ∷ ‵ (flft κ' q') ∷ ‵ (fsep (finally u8 γ' new) Closed) ∷ ‵ (R.row.own_val r (w ∷ [])) ∷ []) ∵
           suffices ! _ (ends_at 𝓛 ended stayed (clauses 𝓤) (((κ, (κ', tt)), (q, (q', tt)), tt, x, at), tt) w r (tt, (new, tt)) (tt, (l, tt))) $ says ! e $
           nothing ! $ move ! (2 ∷ 0 ∷ []) $ join ! $ move ! (1 ∷ 0 ∷ []) $ join ! $ frame ! $
           nothing ! $ move ! (1 ∷ 0 ∷ []) $ fjoin ! $ nothing ! $ fjoin ! $ done !
@@ -178,11 +186,11 @@ module _ {L C : Data} {R : Result} (d : Relay L C R) where
             use1 𝓛 (later (some (λ (r : R.row.Denot). ((‵ (flft κ' q') ⊛ ‵ ftrue) ⊛ ‵ (R.row.own_val r (w ∷ []))) ⊛ raw (ensured 𝓛 put_ended (put_clauses 𝓤) (κ', tt) (c, (buf, tt)) tt r)))) (id⊢ 𝓤 _) $ await ! tt $ pick ! (λ r.
             -- what `put` ensures, at some last bytes
             split ! $ move ! (1 ∷ []) $ use1 𝓛 (some (λ (ws : Lasts put_ended (κ', tt) (c, (buf, tt))). ‵ (lasts put_ended (κ', tt) (c, (buf, tt)) ws) ⊛ raw (fact 𝓤 (d.Puts c old r ws.1.0)))) (id⊢ 𝓤 _) $ pick ! (λ ws.
-            split ! $ move ! (1 ∷ []) $ heard ! (d.Puts c old r ws.1.0) (λ puts. fsplit ! $ drop ! $ fsplit ! $ fsplit ! $ move ! (1 ∷ []) $ feq_l ! (λ l.
-            -- [the last bytes; true; the buffer's token and the result; the lines' token; true, thrice; the locals]
+            split ! $ move ! (1 ∷ []) $ heard ! (d.Puts c old r ws.1.0) (λ puts. fsplit ! $ drop ! $ fsplit ! $ fsplit ! $ fsplit ! $ move ! (1 ∷ []) $ feq_l ! (λ l. fjoin ! $
+            -- [the last bytes and the borrow; true; the buffer's token and the result; the lines' token; true, thrice; the locals]
             move ! (2 ∷ []) $ split ! $ split ! $ move ! (2 ∷ []) $ peeks ! R.row (Is R.row) (shows 𝓛 R.row) r (w ∷ []) (λ is'.
             land ! (from ! (stop !)) (init ! 19 refl (R.typed 𝓛 r w is')) $
-            -- [the result; the buffer's token; true; the last bytes; true; the lines' token; true, thrice; the locals]
+            -- [the result; the buffer's token; true; the last bytes and the borrow; true; the lines' token; true, thrice; the locals]
             returns ! (look ! 19 refl) $ forget ! 9 refl $ forget ! 11 refl $ forget ! 13 refl $ forget ! 15 refl $ forget ! 17 refl $ forget ! 19 refl $
             move ! (19 ∷ 20 ∷ []) $ free1 ! $ move ! (17 ∷ 18 ∷ []) $ free1 ! $ move ! (15 ∷ 16 ∷ []) $ free1 ! $ move ! (13 ∷ 14 ∷ []) $ free1 ! $ move ! (11 ∷ 12 ∷ []) $ free1 ! $ move ! (9 ∷ 10 ∷ []) $ free1 ! $ free0 ! $
             keep ! (5 ∷ 1 ∷ 3 ∷ 0 ∷ []) $ by ! (exits r w ws.1.0 (d.says_so ys c old r ws.1.0 copies puts) l)))))))))))))))))
@@ -196,4 +204,4 @@ module _ {L C : Data} {R : Result} (d : Relay L C R) where
         (walked 𝓛 ended stayed (clauses 𝓤) (WpFn 𝓤 H 𝓣.C 𝓣.Λ function)
         (λ κs. (shr_slice_vals, (mut_slice_vals, tt))) (λ κs. (shr_slice_Tells (named 0) κs.0 (row L), (mut_slice_Tells (named 1) κs.1.0 u8, tt)))
         (λ κs qs bounds a g are. via 𝓤 _ (fst∗ 𝓤 _ (emp 𝓤))
-        (walk κs.0 κs.1.0 qs.0 qs.1.0 a.0.ref_ptr.0 a.0.ref_ptr.1 a.0.ghost_name a.0.now are.0.0.1 a.1.0.ref_ptr.0 a.1.0.ref_ptr.1 a.1.0.ghost_name a.1.0.now are.1.0.0.1 𝓣 known-copy known-put)))
+        (walk κs.0 κs.1.0 qs.0 qs.1.0 a.0.ref_ptr.0 a.0.ref_ptr.1 a.0.now are.0.0.1 a.1.0.ref_ptr.0 a.1.0.ref_ptr.1 a.1.0.ghost_name a.1.0.now are.1.0.0.1 𝓣 known-copy known-put)))

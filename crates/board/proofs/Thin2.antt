@@ -7,8 +7,8 @@ use mathlib.Core.Path.{refl}
 use Prim.Native.Nat.{ℕ}
 use mathlib.Core.List.{[], ◌∷◌, List}
 use seplogic.Ra.Ura.{Ura}
-use seplogic.Ra.TreeShare.{full_share}
-use mir.Syntax.{Name, Fn, named, mut, ty_ref, deref, field, place, copy, local, value_local, seq, assign, call, return, rv_opd}
+use base.Fraction.{full_share}
+use mir.Syntax.{Callee, Fn, named, mut, ty_ref, deref, field, place, copy, local, value_local, seq, assign, call, return, rv_opd}
 use mir.Val.{Val, vptr}
 use base.Logic.{SProp, ent, sep, emp, snd∗, ex_e, id⊢}
 use base.Fml.{GName, Lft, Share, ftrue, flft, fobs, fbor, fat}
@@ -41,7 +41,7 @@ use Rattle.board.proofs.Data.{Data, Pair, row, ty, val, vals, pair, pair_laws, p
 
 -- what is said of one call. `step` requires `Ok` and ensures `Gives` of its result; `call` requires `Ok` of what lies behind the reference, and ensures `Says` of its answer and of what lies there in the end
 pub record Call {S P : Data} (N : Pair S P) (A₁ A₂ : Arg) : Type 1 where
-  pub key : Name
+  pub key : Callee
   pub Ok : S.type.D → A₁.row.Denot → A₂.row.Denot → Type 0
   pub Gives : S.type.D → A₁.row.Denot → A₂.row.Denot → N.D → Type 0
   pub Says : S.type.D → A₁.row.Denot → A₂.row.Denot → P.type.D → S.type.D → Type 0
@@ -69,12 +69,15 @@ module _ {S P : Data} {N : Pair S P} {A₁ A₂ : Arg} (c : Call N A₁ A₂) wh
   function = record {
     lifetimes = 1;
     outlives = [];
+    ty_params = [];
+    givens = 0;
     params = 3;
-    locals = local (ty P) value_local ∷ local (ty_ref (named 0) mut (pointee (row S).written)) value_local ∷ local A₁.mir value_local ∷ local A₂.mir value_local ∷ local (pair_ty N) value_local ∷ local (ty S) value_local ∷ [];
+    locals = local (ty P) value_local ∷ local (ty_ref (named 0) mut (pointee (row S).written)) value_local ∷ local A₁.mir value_local ∷ local A₂.mir value_local ∷ local (pair_ty N) value_local ∷ local (ty S) value_local ∷ local (ty S) value_local ∷ [];
     body = seq (assign (place 5 []) (rv_opd (copy (place 1 (deref (ty S) ∷ [])))))
         (seq (call c.key (copy (place 5 []) ∷ copy (place 2 []) ∷ copy (place 3 []) ∷ []) (place 4 []))
-        (seq (assign (place 1 (deref (ty S) ∷ [])) (rv_opd (copy (place 4 (field 0 ∷ [])))))
-        (seq (assign (place 0 []) (rv_opd (copy (place 4 (field 1 ∷ []))))) return)));
+        (seq (assign (place 6 []) (rv_opd (copy (place 4 (field 0 ∷ [])))))
+        (seq (assign (place 1 (deref (ty S) ∷ [])) (rv_opd (copy (place 6 []))))
+        (seq (assign (place 0 []) (rv_opd (copy (place 4 (field 1 ∷ []))))) return))));
   }
 
   abbrev stayed : Stays ended.signature.params ended.kept
@@ -118,30 +121,31 @@ module _ {S P : Data} {N : Pair S P} {A₁ A₂ : Arg} (c : Call N A₁ A₂) wh
         walk : ent 𝓤 (on_entry 𝓛 ended.signature (κ, tt) (q, tt) x at) (WpFn 𝓤 H 𝓣.C 𝓣.Λ function (vptr b o ∷ A₁.val x₁ ∷ A₂.val x₂ ∷ []) Post)
         walk =
             qed 𝓛 ((‵ (flft κ q) ⊛ ‵ ftrue) ∷ ‵ (owns (MutRef (named 0) κ (row S) ∷ A₁.row ∷ A₂.row ∷ []) x at) ∷ []) ∵ enter ! 𝓣.C 𝓣.Λ function (vptr b o ∷ A₁.val x₁ ∷ A₂.val x₂ ∷ []) _ $
-            alloc1 ! (λ l₀. alloc1 ! (λ l₁. alloc1 ! (λ l₂. alloc1 ! (λ l₃. alloc1 ! (λ l₄. alloc1 ! (λ l₅. alloc0 ! $ params1 ! $
-            pass1 ! (init ! 8 refl (tt, tt)) $ pass1 ! (init ! 6 refl (A₁.typed 𝓛 x₁ is₁)) $ pass1 ! (init ! 4 refl (A₂.typed 𝓛 x₂ is₂)) $ pass0 ! $
-            move ! (13 ∷ []) $ fsplit ! $ fsplit3 ! $ drop ! $ move ! (15 ∷ []) $ split ! $ move ! (2 ∷ 3 ∷ 0 ∷ []) $
+            alloc1 ! (λ l₀. alloc1 ! (λ l₁. alloc1 ! (λ l₂. alloc1 ! (λ l₃. alloc1 ! (λ l₄. alloc1 ! (λ l₅. alloc1 ! (λ l₆. alloc0 ! $ params1 ! $
+            pass1 ! (init ! 10 refl (tt, tt)) $ pass1 ! (init ! 8 refl (A₁.typed 𝓛 x₁ is₁)) $ pass1 ! (init ! 6 refl (A₂.typed 𝓛 x₂ is₂)) $ pass0 ! $
+            move ! (15 ∷ []) $ fsplit ! $ fsplit3 ! $ drop ! $ move ! (17 ∷ []) $ split ! $ move ! (2 ∷ 3 ∷ 0 ∷ []) $
             opens ! tt (row S) {h = h} b o (λ vs. spelt ! (row S) (Is (row S)) (shows 𝓛 (row S)) (vals S) (LL.tells S.type S.laws) full_share h vs b o $
             move ! (1 ∷ []) $ peeks ! (row S) (Is (row S)) (shows 𝓛 (row S)) h (vals S h) (λ was. drop ! $
             -- [the state's cell; the open borrow; obs; auth; true; the other parameters'; the locals, the last first]
-            assigns ! (of_opd ! (load ! (from ! (hop ! (look ! 14 refl) (stop !))) (look_raw ! 0 refl))) (from ! (stop !)) (init ! 6 refl ((LL.lawful S.type S.laws 𝓛).typed h _ was).0) $
+            assigns ! (of_opd ! (load ! (from ! (hop ! (look ! 16 refl) (stop !))) (look_raw ! 0 refl))) (from ! (stop !)) (init ! 8 refl ((LL.lawful S.type S.laws 𝓛).typed h _ was).0) $
             use0 𝓛 (raw ((Step 𝓛).pre to_step)) (goes_step was) $
-            calls_at ! (fm_of 𝓤 H 𝓛.laws 𝓣) (Step 𝓛) known to_step (and_then ! (load ! (from ! (stop !)) (look ! 7 refl)) (and_then ! (load ! (from ! (stop !)) (look ! 13 refl)) (and_then ! (load ! (from ! (stop !)) (look ! 11 refl)) (no_more !)))) (λ v.
+            calls_at ! (fm_of 𝓤 H 𝓛.laws 𝓣) (Step 𝓛) known to_step (and_then ! (load ! (from ! (stop !)) (look ! 9 refl)) (and_then ! (load ! (from ! (stop !)) (look ! 15 refl)) (and_then ! (load ! (from ! (stop !)) (look ! 13 refl)) (no_more !)))) (λ v.
             use1 𝓛 (later (some (λ (r : N.D). (‵ ftrue ⊛ ‵ ((pair_row N).own_val r (v ∷ []))) ⊛ raw (ensured 𝓛 step_ended (step_clauses 𝓤) tt (h, (x₁, (x₂, tt))) tt r)))) (id⊢ 𝓤 _) $ await ! tt $ pick ! (λ r.
             split ! $ move ! (1 ∷ []) $ use1 𝓛 (raw (fact 𝓤 (c.Gives h x₁ x₂ r))) (step_said r) $ heard ! (c.Gives h x₁ x₂ r) (λ e. split ! $ drop ! $
             peeks ! (pair_row N) (Is (pair_row N)) (shows 𝓛 (pair_row N)) r (v ∷ []) (λ is₀.
-            land ! (from ! (stop !)) (init ! 9 refl ((LL.lawful (pair N) (pair_laws N) 𝓛).typed r _ is₀).0) $
-            rewrite ! 9 (λ (us : List Val). ‵ (fat full_share (pair_ty N) l₄ 0 (only us))) (LL.tells (pair N) (pair_laws N) r (v ∷ []) is₀) refl $
+            land ! (from ! (stop !)) (init ! 11 refl ((LL.lawful (pair N) (pair_laws N) 𝓛).typed r _ is₀).0) $
+            rewrite ! 11 (λ (us : List Val). ‵ (fat full_share (pair_ty N) l₄ 0 (only us))) (LL.tells (pair N) (pair_laws N) r (v ∷ []) is₀) refl $
             rewrite ! 0 (λ (us : List Val). ‵ ((pair_row N).own_val r us)) (LL.tells (pair N) (pair_laws N) r (v ∷ []) is₀) refl $
             peeks ! (pair_row N) (Is (pair_row N)) (shows 𝓛 (pair_row N)) r (pair_vals N r) (λ is. drop ! $
             -- as above
-            assigns ! (of_opd ! (load ! (from ! (fld ! refl (stop !))) (look_in ! 8 (sub ! 0 refl (whole !))))) (from ! (hop ! (look ! 14 refl) (stop !))) (store_raw ! 0 refl ((LL.lawful S.type S.laws 𝓛).typed (N.state r) _ (LL.owed (pair N) (pair_laws N) r _ is).0).0) $
-            assigns ! (of_opd ! (load ! (from ! (fld ! refl (stop !))) (look_in ! 8 (sub ! 1 refl (whole !))))) (from ! (stop !)) (init ! 16 refl ((LL.lawful P.type P.laws 𝓛).typed (N.answer r) _ (LL.owed (pair N) (pair_laws N) r _ is).1.0).0) $
+            assigns ! (of_opd ! (load ! (from ! (fld ! refl (stop !))) (look_in ! 10 (sub ! 0 refl (whole !))))) (from ! (stop !)) (init ! 6 refl ((LL.lawful S.type S.laws 𝓛).typed (N.state r) _ (LL.owed (pair N) (pair_laws N) r _ is).0).0) $
+            assigns ! (of_opd ! (load ! (from ! (stop !)) (look ! 6 refl))) (from ! (hop ! (look ! 16 refl) (stop !))) (store_raw ! 0 refl ((LL.lawful S.type S.laws 𝓛).typed (N.state r) _ (LL.owed (pair N) (pair_laws N) r _ is).0).0) $
+            assigns ! (of_opd ! (load ! (from ! (fld ! refl (stop !))) (look_in ! 10 (sub ! 1 refl (whole !))))) (from ! (stop !)) (init ! 18 refl ((LL.lawful P.type P.laws 𝓛).typed (N.answer r) _ (LL.owed (pair N) (pair_laws N) r _ is).1.0).0) $
             owned ! (row S) (Is (row S)) (LL.makes S.type S.plain 𝓛) (N.state r) (vals S (N.state r)) (LL.owed (pair N) (pair_laws N) r _ is).0 $ move ! (1 ∷ 0 ∷ []) $ closes ! tt (row S) (N.state r) (vals S (N.state r)) b o $
             -- [obs; the borrow; the token; true; the other parameters'; the locals]
-            returns ! (look ! 15 refl) $ forget ! 5 refl $ forget ! 7 refl $ forget ! 9 refl $ forget ! 11 refl $ forget ! 13 refl $ forget ! 15 refl $
-            move ! (15 ∷ 16 ∷ []) $ free1 ! $ move ! (13 ∷ 14 ∷ []) $ free1 ! $ move ! (11 ∷ 12 ∷ []) $ free1 ! $ move ! (9 ∷ 10 ∷ []) $ free1 ! $ move ! (7 ∷ 8 ∷ []) $ free1 ! $ move ! (5 ∷ 6 ∷ []) $ free1 ! $ free0 ! $
-            keep ! (0 ∷ 1 ∷ 2 ∷ []) $ by ! (exits r is e))))))))))))))
+            returns ! (look ! 17 refl) $ forget ! 5 refl $ forget ! 7 refl $ forget ! 9 refl $ forget ! 11 refl $ forget ! 13 refl $ forget ! 15 refl $ forget ! 17 refl $
+            move ! (17 ∷ 18 ∷ []) $ free1 ! $ move ! (15 ∷ 16 ∷ []) $ free1 ! $ move ! (13 ∷ 14 ∷ []) $ free1 ! $ move ! (11 ∷ 12 ∷ []) $ free1 ! $ move ! (9 ∷ 10 ∷ []) $ free1 ! $ move ! (7 ∷ 8 ∷ []) $ free1 ! $ move ! (5 ∷ 6 ∷ []) $ free1 ! $ free0 ! $
+            keep ! (0 ∷ 1 ∷ 2 ∷ []) $ by ! (exits r is e)))))))))))))))
 
     goes_all : AllGo 𝓛 1 ended.signature.params ended.kept stayed
     goes_all = (Goes-ref 𝓛 1 0 tt (plain (λ _. row S)), (Goes-dropped 𝓛 1 (plain (λ _. A₁.row)) yes (λ κs. A₁.silent), (Goes-dropped 𝓛 1 (plain (λ _. A₂.row)) yes (λ κs. A₂.silent), tt)))

@@ -100,7 +100,7 @@ fn copy_lines(lines: &[Line]) -> LineCopy
 
 // The table of the lent lines, from the buffer's first byte on: the count of its bytes, or the refusal's number.
 pub fn write_table(lines: &[Line], buf: &mut [u8]) -> Written
-    ensures { TableWrote (record { lines = lines.entry.now }) buf.old result buf.new }
+    ensures { TableWrote (record { lines = lines.now }) buf.old result buf.new }
 {
     let copy = copy_lines(lines);
     tape::write_copy(copy, buf)

@@ -1,7 +1,7 @@
 -- C's calls as thin calls (`board`, `Thin1.antt` and `Thin2.antt`): all that one says of itself is which call of the rule-book it is. Assumes nothing.
 use Prim.Native.Nat.{ℕ}
 use mathlib.Core.Path.{◌≡◌, ap, ◌∙◌}
-use mir.Syntax.{Name, w8}
+use mir.Syntax.{Callee, w8}
 use Rattle.rules.specs.declared.Call.{Call}
 use Rattle.rules.specs.declared.Tick.{Tick}
 use Rattle.scheduler.proofs.Claims.{the_claims}
@@ -33,7 +33,7 @@ left p e r ok g =
     }
 
 -- a call at a tick
-abbrev pub at_tick : Name → (Tick → Call) → thin1.Call stepped tick
+abbrev pub at_tick : Callee → (Tick → Call) → thin1.Call stepped tick
 at_tick step e = record {
   key = step;
   Ok = λ p at. HeadHanded p;
@@ -43,7 +43,7 @@ at_tick step e = record {
 }
 
 -- a call at a tick, of a task
-abbrev pub at_task : Name → (Tick → ℕ → Call) → thin2.Call stepped tick (word w8)
+abbrev pub at_task : Callee → (Tick → ℕ → Call) → thin2.Call stepped tick (word w8)
 at_task step e = record {
   key = step;
   Ok = λ p at n. HeadHanded p;

@@ -37,6 +37,8 @@ answer_told p e a t l = l.answers
 -- C's calls tell and leave what steps by value do
 went : (p : HeadState) (es : List Call) (told : List HeadAnswer) (t : HeadState) → Went Left p es told t → (told ≡ map answer_for (answered (state_in p) es)) × (t ≡ placed (state_after (state_in p) es))
 went p [] [] t w = (refl, w ∙ sym (placed_back p))
+went p [] (a ∷ told) t w = elim w [ ]
+went p (e ∷ es) [] t w = elim w [ ]
 went p (e ∷ es) (a ∷ told) t w =
     let next = next_back p e a w.0 w.1 in
     let rest = went w.0 es told t w.2 in

@@ -22,7 +22,7 @@ abbrev pub answer : Data
 answer = record { type = A.the_type; laws = A'.the_laws; plain = A'.the_plain; copies = A'.the_copy; lowers = A'.lowers }
 
 abbrev pub stepped : Pair state answer
-stepped = record { name = (N.struct).name; D = (N.the_type).D; state = λ r. r.state; answer = λ r. r.answer; one = (N.the_type).to_one }
+stepped = record { name = (N.struct).name; D = (N.the_type).D; state = λ r. r.state; answer = λ r. r.answer; one = (N.the_type).to_one; cover = (N.the_type).cover; propositions = (N.the_type).propositions }
 
 abbrev pub told : Result
 told = record { row = Y.the_row; mir = Y'.mir; typed = λ 𝓛 r v p. ((LL.lawful Y.the_type Y'.the_laws 𝓛).typed r _ p).0 }

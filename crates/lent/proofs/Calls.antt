@@ -1,7 +1,7 @@
 -- The calls as calls that lend (`Lend1.antt`, `Lend2.antt`): all that one says of itself is which call of the rule-book it is. Assumes nothing.
 use Prim.Native.Nat.{ℕ}
 use mathlib.Core.Path.{◌≡◌, refl}
-use mir.Syntax.{Name, w8}
+use mir.Syntax.{Callee, w8}
 use Rattle.rules.specs.declared.Answer.{Answer}
 use Rattle.rules.specs.declared.Call.{Call}
 use Rattle.rules.specs.declared.Tick.{Tick}
@@ -26,7 +26,7 @@ pub whole : (s : State) (e : Call) (a : Answer) (t : State) → Left s e a t →
 whole s e a t l = ((λ i. both (l.leaves i) (l.answers i)), l.handed)
 
 -- a call at a tick
-abbrev pub at_tick : Name → (Tick → Call) → lend1.Call made tick
+abbrev pub at_tick : Callee → (Tick → Call) → lend1.Call made tick
 at_tick call e = record {
   key = call;
   Ok = λ s at. Handed s;
@@ -36,7 +36,7 @@ at_tick call e = record {
 }
 
 -- a call at a tick, of a task
-abbrev pub at_task : Name → (Tick → ℕ → Call) → lend2.Call made tick (word w8)
+abbrev pub at_task : Callee → (Tick → ℕ → Call) → lend2.Call made tick (word w8)
 at_task call e = record {
   key = call;
   Ok = λ s at n. Handed s;

@@ -7,8 +7,8 @@ use mathlib.Core.Path.{refl, sym}
 use Prim.Native.Nat.{ℕ}
 use mathlib.Core.List.{[], ◌∷◌, List}
 use seplogic.Ra.Ura.{Ura}
-use seplogic.Ra.TreeShare.{full_share}
-use mir.Syntax.{Name, Fn, erased, mut, ty_ref, place, copy, local, value_local, memory_slot, seq, assign, call, return, rv_opd, addr_of, aggregate}
+use base.Fraction.{full_share}
+use mir.Syntax.{Callee, Fn, erased, mut, ty_ref, place, copy, local, value_local, memory_slot, seq, assign, call, return, rv_opd, addr_of, aggregate}
 use mir.Val.{Val, vptr}
 use base.Logic.{SProp, ent, sep, emp, id⊢}
 use base.Fml.{GName, ftrue, flft, flent, fat}
@@ -42,7 +42,7 @@ use Rattle.lent.proofs.Lending.{Made, made_is, pair_plain, lent, cell, lends, ba
 
 -- what is said of one call. The board's call requires `Ok` of what lies behind the reference, and ensures `Says` of its answer and of what lies there in the end; `call` requires `Ok`, and ensures `Gives` of its result
 pub record Call {S P : Data} {N : Pair S P} (m : Made N) (A₁ A₂ : Arg) : Type 1 where
-  pub key : Name
+  pub key : Callee
   pub Ok : S.type.D → A₁.row.Denot → A₂.row.Denot → Type 0
   pub Says : S.type.D → A₁.row.Denot → A₂.row.Denot → P.type.D → S.type.D → Type 0
   pub Gives : S.type.D → A₁.row.Denot → A₂.row.Denot → N.D → Type 0
@@ -70,6 +70,8 @@ module _ {S P : Data} {N : Pair S P} {m : Made N} {A₁ A₂ : Arg} (c : Call m 
   function = record {
     lifetimes = 0;
     outlives = [];
+    ty_params = [];
+    givens = 0;
     params = 3;
     locals = local (pair_ty N) value_local ∷ local (ty S) value_local ∷ local A₁.mir value_local ∷ local A₂.mir value_local ∷ local (ty S) memory_slot ∷ local (ty P) value_local ∷ local (ty_ref erased mut (pointee (row S).written)) value_local ∷ local (ty S) value_local ∷ [];
     body = seq (assign (place 4 []) (rv_opd (copy (place 1 []))))
@@ -134,7 +136,7 @@ module _ {S P : Data} {N : Pair S P} {m : Made N} {A₁ A₂ : Arg} (c : Call m 
             use1 𝓛 (later (some (λ (p : P.type.D). ((‵ (flft (ν ∷ []) full_share) ⊛ ‵ ftrue) ⊛ ‵ ((row P).own_val p (v ∷ []))) ⊛ raw (ensured 𝓛 board_ended (board_clauses 𝓤) (ν ∷ [], tt) (passed l₄ γ) tt p)))) (id⊢ 𝓤 _) $ await ! tt $ pick ! (λ p.
             -- what it ensures, at the state that it left
             split ! $ move ! (1 ∷ []) $ use1 𝓛 (some (λ (ws : Lasts board_ended (ν ∷ [], tt) (passed l₄ γ)). ‵ (lasts board_ended (ν ∷ [], tt) (passed l₄ γ) ws) ⊛ raw (fact 𝓤 (c.Says h x₁ x₂ p ws.0)))) (id⊢ 𝓤 _) $ pick ! (λ ws.
-            split ! $ move ! (1 ∷ []) $ heard ! (c.Says h x₁ x₂ p ws.0) (λ e. fsplit ! $ move ! (2 ∷ []) $ split ! $ move ! (1 ∷ []) $
+            split ! $ move ! (1 ∷ []) $ heard ! (c.Says h x₁ x₂ p ws.0) (λ e. fsplit ! $ fsplit ! $ move ! (1 ∷ []) $ drop ! $ move ! (2 ∷ []) $ split ! $ move ! (1 ∷ []) $
             peeks ! (row P) (Is (row P)) (shows 𝓛 (row P)) p (v ∷ []) (λ is₀.
             land ! (from ! (stop !)) (init ! 9 refl ((LL.lawful P.type P.laws 𝓛).typed p _ is₀).0) $
             rewrite ! 9 (λ (us : List Val). ‵ (fat full_share (ty P) l₅ 0 (only us))) (LL.tells P.type P.laws p (v ∷ []) is₀) refl $

@@ -1,17 +1,17 @@
 -- A question that lends, of 1 plain parameter, proved once for all of them: `fn call(s: State, a) -> R { let here = s; board(&here, a) }`.
 --     Call         what is said of one call, beside what the board's question requires and ensures (`Ask`): what `call` ensures
---     lend-look    `call`'s MIR meets its contract, from what the board's question ensures. The local is lent by `&` for a lifetime that is made here; once the question has returned the lifetime is ended, and the local comes back as it was
+--     lend_look    `call`'s MIR meets its contract, from what the board's question ensures. The local is lent by `&` for a lifetime that is made here; once the question has returned the lifetime is ended, and the local comes back as it was
 -- It is over any struct for the state and any result, and names no field of them: a new one changes nothing here.
 -- Assumes nothing.
 use mathlib.Core.Path.{◌≡◌, refl, sym, subst}
 use Prim.Native.Nat.{ℕ}
 use mathlib.Core.List.{[], ◌∷◌, List}
 use seplogic.Ra.Ura.{Ura}
-use seplogic.Ra.TreeShare.{full_share}
+use base.Fraction.{full_share}
 use mir.Syntax.{Fn, erased, imm, ty_ref, place, copy, local, value_local, memory_slot, seq, assign, call, return, rv_opd, addr_of}
 use mir.Val.{Val, vptr}
 use base.Logic.{SProp, ent, sep, snd∗, ex_e, id⊢}
-use base.Fml.{GName, ftrue, flft, flent}
+use base.Fml.{ftrue, flft, flent}
 use prog.Wp.{WpFn, Tables}
 use types.Logic.{Logic, sem}
 use contract.Monad.{fact}
@@ -23,7 +23,7 @@ use denote.RattleType.{owns}
 use denote.Laws.{Is, shows}
 use denote.Memory.{pointee}
 use denote.Builtin.{RefOf}
-use denote.Ref.{MutBor}
+use denote.Ref.{Bor}
 use denote.Signature.{plain}
 use denote.Steps.{owned, peeks, heard, nothing}
 use denote.Struct.Laws as LL
@@ -75,6 +75,8 @@ module _ {S : Data} {A₁ : Arg} {R : Result} {q : Ask S A₁ R} (c : Call q) wh
   function = record {
     lifetimes = 0;
     outlives = [];
+    ty_params = [];
+    givens = 0;
     params = 2;
     locals = local R.mir value_local ∷ local (ty S) value_local ∷ local A₁.mir value_local ∷ local (ty S) memory_slot ∷ local (ty_ref erased imm (pointee (row S).written)) value_local ∷ [];
     body = seq (assign (place 3 []) (rv_opd (copy (place 1 []))))
@@ -98,20 +100,20 @@ module _ {S : Data} {A₁ : Arg} {R : Result} {q : Ask S A₁ R} (c : Call q) wh
       abbrev Post : Val → SProp 𝓤
       Post = (walk_of 𝓛 ended stayed (clauses 𝓤)).post ((tt, tt, tt, x, at), tt)
 
-      -- what the board's question is passed: the local at b, lent for the lifetime ν under the name γ
-      abbrev passed : ℕ → GName → MutBor S.type.D × (A₁.row.Denot × Unit {0})
-      passed b γ = (record { ref_ptr = (b, 0); ghost_name = γ; now = h }, (x₁, tt))
+      -- what the board's question is passed: the local at b, lent for the lifetime ν
+      abbrev passed : ℕ → Bor S.type.D × (A₁.row.Denot × Unit {0})
+      passed b = (record { ref_ptr = (b, 0); now = h }, (x₁, tt))
 
-      abbrev to_board : ℕ → ℕ → GName → (Board 𝓛).Ghost
-      to_board ν b γ = (((ν ∷ [], tt), (full_share, tt), tt, passed b γ, (vptr b 0 ∷ [], (A₁.val x₁ ∷ [], tt))), tt)
+      abbrev to_board : ℕ → ℕ → (Board 𝓛).Ghost
+      to_board ν b = (((ν ∷ [], tt), (full_share, tt), tt, passed b, (vptr b 0 ∷ [], (A₁.val x₁ ∷ [], tt))), tt)
 
-      goes_board : (ν b : ℕ) (γ : GName) → ent 𝓤 (sep 𝓤 (A.lft (ν ∷ []) full_share) (sem 𝓛 (shared S 𝓛 (ν ∷ []) b γ h))) ((Board 𝓛).pre (to_board ν b γ))
-      goes_board ν b γ =
-          qed 𝓛 (‵ (flft (ν ∷ []) full_share) ∷ ‵ (shared S 𝓛 (ν ∷ []) b γ h) ∷ []) ∵ says ! ok $ nothing ! $ move ! (1 ∷ 0 ∷ []) $ join ! $ frame ! $
+      goes_board : (ν b : ℕ) → ent 𝓤 (sep 𝓤 (A.lft (ν ∷ []) full_share) (sem 𝓛 (shared S 𝓛 (ν ∷ []) b h))) ((Board 𝓛).pre (to_board ν b))
+      goes_board ν b =
+          qed 𝓛 (‵ (flft (ν ∷ []) full_share) ∷ ‵ (shared S 𝓛 (ν ∷ []) b h) ∷ []) ∵ says ! ok $ nothing ! $ move ! (1 ∷ 0 ∷ []) $ join ! $ frame ! $
           nothing ! $ owned ! A₁.row (Is A₁.row) (A₁.makes 𝓛) x₁ _ is₁ $ fjoin ! $ move ! (1 ∷ 0 ∷ []) $ fjoin ! $ done !
 
-      board_said : (ν b : ℕ) (γ : GName) (r : R.row.Denot) → ent 𝓤 (ensured 𝓛 board_ended (board_clauses 𝓤) (ν ∷ [], tt) (passed b γ) tt r) (fact 𝓤 (q.Gives h x₁ r))
-      board_said ν b γ r = ex_e 𝓤 _ (λ ws. snd∗ 𝓤 (sem 𝓛 (lasts board_ended (ν ∷ [], tt) (passed b γ) ws)) (fact 𝓤 (q.Gives h x₁ r)))
+      board_said : (ν b : ℕ) (r : R.row.Denot) → ent 𝓤 (ensured 𝓛 board_ended (board_clauses 𝓤) (ν ∷ [], tt) (passed b) tt r) (fact 𝓤 (q.Gives h x₁ r))
+      board_said ν b r = ex_e 𝓤 _ (λ ws. snd∗ 𝓤 (sem 𝓛 (lasts board_ended (ν ∷ [], tt) (passed b) ws)) (fact 𝓤 (q.Gives h x₁ r)))
 
       exits : (r : R.row.Denot) (v : Val) → q.Gives h x₁ r → ent 𝓤 (sem 𝓛 (R.row.own_val r (v ∷ []))) (Post v)
       exits r v e =
@@ -129,19 +131,19 @@ module _ {S : Data} {A₁ : Arg} {R : Result} {q : Ask S A₁ R} (c : Call q) wh
             assigns ! (addr ! (from ! (stop !))) (from ! (stop !)) (init ! 0 refl (tt, tt)) $
             -- the local is lent, for a lifetime ν of the question
             lft_new ! tt (λ ν. move ! (3 ∷ []) $
-            use1 𝓛 (later (some (λ (γ : GName). ‵ (shared S 𝓛 (ν ∷ []) l₃ γ h) ⊛ ‵ (flent (ν ∷ []) (held S 𝓛 (ν ∷ []) l₃ h))))) (lends_shared S 𝓛 (ν ∷ []) l₃ h is) $ await ! tt $ pick ! (λ γ. split ! $
-            move ! (2 ∷ 0 ∷ []) $ use2 𝓛 (raw ((Board 𝓛).pre (to_board ν l₃ γ))) (goes_board ν l₃ γ) $
+            use1 𝓛 (later (‵ (shared S 𝓛 (ν ∷ []) l₃ h) ⊛ ‵ (flent (ν ∷ []) (held S 𝓛 (ν ∷ []) l₃ h)))) (lends_shared S 𝓛 (ν ∷ []) l₃ h is) $ await ! tt $ split ! $
+            move ! (2 ∷ 0 ∷ []) $ use2 𝓛 (raw ((Board 𝓛).pre (to_board ν l₃))) (goes_board ν l₃) $
             -- [what the question asks; the lender's part; the locals but for the one that is lent]
-            calls_at ! (fm_of 𝓤 H 𝓛.laws 𝓣) (Board 𝓛) known (to_board ν l₃ γ) (and_then ! (load ! (from ! (stop !)) (look ! 2 refl)) (and_then ! (load ! (from ! (stop !)) (look ! 5 refl)) (no_more !))) (λ v.
-            use1 𝓛 (later (some (λ (r : R.row.Denot). ((‵ (flft (ν ∷ []) full_share) ⊛ ‵ ftrue) ⊛ ‵ (R.row.own_val r (v ∷ []))) ⊛ raw (ensured 𝓛 board_ended (board_clauses 𝓤) (ν ∷ [], tt) (passed l₃ γ) tt r)))) (id⊢ 𝓤 _) $ await ! tt $ pick ! (λ r.
-            split ! $ move ! (1 ∷ []) $ use1 𝓛 (raw (fact 𝓤 (q.Gives h x₁ r))) (board_said ν l₃ γ r) $ heard ! (q.Gives h x₁ r) (λ e. split ! $ move ! (1 ∷ []) $
+            calls_at ! (fm_of 𝓤 H 𝓛.laws 𝓣) (Board 𝓛) known (to_board ν l₃) (and_then ! (load ! (from ! (stop !)) (look ! 2 refl)) (and_then ! (load ! (from ! (stop !)) (look ! 5 refl)) (no_more !))) (λ v.
+            use1 𝓛 (later (some (λ (r : R.row.Denot). ((‵ (flft (ν ∷ []) full_share) ⊛ ‵ ftrue) ⊛ ‵ (R.row.own_val r (v ∷ []))) ⊛ raw (ensured 𝓛 board_ended (board_clauses 𝓤) (ν ∷ [], tt) (passed l₃) tt r)))) (id⊢ 𝓤 _) $ await ! tt $ pick ! (λ r.
+            split ! $ move ! (1 ∷ []) $ use1 𝓛 (raw (fact 𝓤 (q.Gives h x₁ r))) (board_said ν l₃ r) $ heard ! (q.Gives h x₁ r) (λ e. split ! $ move ! (1 ∷ []) $
             peeks ! R.row (Is R.row) (shows 𝓛 R.row) r (v ∷ []) (λ is₀. land ! (from ! (stop !)) (init ! 10 refl (R.typed 𝓛 r v is₀)) $
             -- the lifetime is ended, and the local is as it was
             move ! (1 ∷ []) $ split ! $ lft_end ! tt $ move ! (0 ∷ 3 ∷ []) $ use2 𝓛 (later (‵ (cell S 𝓛 (ν ∷ []) l₃ h))) (shared_back S 𝓛 (ν ∷ []) l₃ h) $ await ! tt $
             -- [the local's cell; true; the result; the other locals]
             returns ! (look ! 10 refl) $ forget ! 0 refl $ forget ! 3 refl $ forget ! 6 refl $ forget ! 8 refl $ forget ! 10 refl $
             move ! (10 ∷ 11 ∷ []) $ free1 ! $ move ! (8 ∷ 9 ∷ []) $ free1 ! $ move ! (6 ∷ 7 ∷ []) $ free1 ! $ move ! (0 ∷ 5 ∷ []) $ free1 ! $ move ! (2 ∷ 3 ∷ []) $ free1 ! $ free0 ! $
-            keep ! (1 ∷ []) $ by ! (exits r v e))))))))))))
+            keep ! (1 ∷ []) $ by ! (exits r v e)))))))))))
 
     goes_all : AllGo 𝓛 0 ended.signature.params ended.kept stayed
     goes_all = (Goes-dropped 𝓛 0 (plain (λ _. row S)) yes (λ κs. silent S), (Goes-dropped 𝓛 0 (plain (λ _. A₁.row)) yes (λ κs. A₁.silent), tt))

@@ -1,7 +1,7 @@
 -- A call that lends the first elements of an array, proved once: `fn call(lines: [Line; N], n: usize) -> Checked { board(&lines[..n]) }`, where n is at most N.
 --     Lines        what is asked of the array's type
 --     Call         what is said of the call: what the board's call ensures of the elements that it was lent and of its result
---     lend-part    `call`'s MIR meets its contract, from what the board's call ensures. The first n elements are lent for a lifetime that is made here; once the call has returned the lifetime is ended, and the array is whole again
+--     lend_part    `call`'s MIR meets its contract, from what the board's call ensures. The first n elements are lent for a lifetime that is made here; once the call has returned the lifetime is ended, and the array is whole again
 -- No field of an element or of a result is named, so a new one changes nothing here.
 -- Assumes nothing.
 use mathlib.Core.Path.{◌≡◌, refl, sym, subst}
@@ -9,11 +9,11 @@ use Prim.Native.Nat.{ℕ, ◌≤◌, ◌<◌, ◌^◌}
 use mathlib.Core.List.{[], ◌∷◌, List}
 use lib.ListN.{length, take, drop as behind}
 use seplogic.Ra.Ura.{Ura}
-use seplogic.Ra.TreeShare.{full_share}
-use mir.Syntax.{Name, Fn, erased, imm, w64, ty_int, ty_ref, ty_array, place, copy, local, value_local, memory_slot, seq, assign, call, return, rv_opd, addr_of, aggregate}
+use base.Fraction.{full_share}
+use mir.Syntax.{Callee, Fn, erased, imm, w64, ty_int, ty_ref, ty_array, place, copy, local, value_local, memory_slot, seq, assign, call, return, rv_opd, addr_of, aggregate}
 use mir.Val.{Val, vint}
 use base.Logic.{SProp, ent, sep, emp, snd∗, ex_e, id⊢}
-use base.Fml.{GName, ftrue, flft, flent, fat, froom}
+use base.Fml.{ftrue, flft, flent, fat, froom}
 use prog.Wp.{WpFn, Tables}
 use types.Logic.{Logic, sem}
 use contract.Monad.{fact}
@@ -28,7 +28,7 @@ use denote.Memory.{pointee}
 use denote.Plain.{uint_vals, uint_Tells}
 use denote.Builtin.{ArrayOf, SliceRefOf, usize}
 use denote.Array.{array_vals, Array-Tells, Array-Lawful}
-use denote.Ref.{MutBor}
+use denote.Ref.{Bor}
 use denote.Slice.{Room, slice_ty, slice_val}
 use denote.Signature.{plain}
 use denote.Steps.{owned, peeks, heard, nothing}
@@ -43,7 +43,7 @@ use denote.Exit.{Last, left, yes}
 use lib.Seq.{length-take-le}
 use borrow.Rule.Array.Share.{Room-take}
 use Rattle.board.proofs.Data.{Data, row, ty, vals}
-use Rattle.lent.proofs.Slicing.{all, all_ty, all_val, part_lent, part_of, rest_of, lends_part, part_back}
+use Rattle.lent.proofs.Slicing.{all, all_ty, all_val, part_lent, lent_of, rest_of, lends_part, part_back}
 
 -- N elements have room, and an array of them, as a parameter by value, is as it was passed at exit
 pub record Lines (L : Data) (N : ℕ) : Type 2 where
@@ -53,7 +53,7 @@ pub record Lines (L : Data) (N : ℕ) : Type 2 where
 
 -- what is said of the call. The board's call ensures `Says` of the elements that it was lent and of its result; `call` requires that n is at most N, and ensures `Says` of the first n elements and of its result
 pub record Call (L Q : Data) : Type 1 where
-  pub key : Name
+  pub key : Callee
   pub Says : List L.type.D → Q.type.D → Type 0
 
 module _ {L Q : Data} {N : ℕ} (m : Lines L N) (c : Call L Q) where
@@ -78,6 +78,8 @@ module _ {L Q : Data} {N : ℕ} (m : Lines L N) (c : Call L Q) where
   function = record {
     lifetimes = 0;
     outlives = [];
+    ty_params = [];
+    givens = 0;
     params = 2;
     locals = local (ty Q) value_local ∷ local (all_ty L N) value_local ∷ local (ty_int w64) value_local ∷ local (all_ty L N) memory_slot ∷ local (ty_ref erased imm (ty_array (pointee (row L).written) N)) value_local ∷ local (slice_ty (ty_ref erased imm (pointee (row L).written))) value_local ∷ [];
     body = seq (assign (place 3 []) (rv_opd (copy (place 1 []))))
@@ -112,19 +114,19 @@ module _ {L Q : Data} {N : ℕ} (m : Lines L N) (c : Call L Q) where
       room : Room (row L) (length (take n xs))
       room = Room-take (row L) N n xs counted m.room
 
-      -- what the board's call is passed: the first n elements of the local at b, lent for the lifetime ν under the name γ
-      abbrev passed : ℕ → GName → MutBor (List L.type.D) × Unit {0}
-      passed b γ = (record { ref_ptr = (b, 0); ghost_name = γ; now = take n xs }, tt)
+      -- what the board's call is passed: the first n elements of the local at b, lent for the lifetime ν
+      abbrev passed : ℕ → Bor (List L.type.D) × Unit {0}
+      passed b = (record { ref_ptr = (b, 0); now = take n xs }, tt)
 
-      abbrev to_board : ℕ → ℕ → GName → (Board 𝓛).Ghost
-      to_board ν b γ = (((ν ∷ [], tt), (full_share, tt), tt, passed b γ, (slice_val (b, 0) (length (take n xs)) ∷ [], tt)), tt)
+      abbrev to_board : ℕ → ℕ → (Board 𝓛).Ghost
+      to_board ν b = (((ν ∷ [], tt), (full_share, tt), tt, passed b, (slice_val (b, 0) (length (take n xs)) ∷ [], tt)), tt)
 
-      goes_board : (ν b : ℕ) (γ : GName) → ent 𝓤 (sep 𝓤 (A.lft (ν ∷ []) full_share) (sem 𝓛 (part_lent L N 𝓛 (ν ∷ []) b γ (take n xs)))) ((Board 𝓛).pre (to_board ν b γ))
-      goes_board ν b γ =
-          qed 𝓛 (‵ (flft (ν ∷ []) full_share) ∷ ‵ (part_lent L N 𝓛 (ν ∷ []) b γ (take n xs)) ∷ []) ∵ nothing ! $ move ! (1 ∷ 0 ∷ []) $ join ! $ nothing ! $ move ! (2 ∷ 0 ∷ []) $ fjoin ! $ move ! (1 ∷ 0 ∷ []) $ join ! $ nothing ! $ move ! (1 ∷ 0 ∷ []) $ done !
+      goes_board : (ν b : ℕ) → ent 𝓤 (sep 𝓤 (A.lft (ν ∷ []) full_share) (sem 𝓛 (part_lent L N 𝓛 (ν ∷ []) b (take n xs)))) ((Board 𝓛).pre (to_board ν b))
+      goes_board ν b =
+          qed 𝓛 (‵ (flft (ν ∷ []) full_share) ∷ ‵ (part_lent L N 𝓛 (ν ∷ []) b (take n xs)) ∷ []) ∵ nothing ! $ move ! (1 ∷ 0 ∷ []) $ join ! $ nothing ! $ move ! (2 ∷ 0 ∷ []) $ fjoin ! $ move ! (1 ∷ 0 ∷ []) $ join ! $ nothing ! $ move ! (1 ∷ 0 ∷ []) $ done !
 
-      board_said : (ν b : ℕ) (γ : GName) (r : Q.type.D) → ent 𝓤 (ensured 𝓛 board_ended (board_clauses 𝓤) (ν ∷ [], tt) (passed b γ) tt r) (fact 𝓤 (c.Says (take n xs) r))
-      board_said ν b γ r = ex_e 𝓤 _ (λ ws. snd∗ 𝓤 (sem 𝓛 (lasts board_ended (ν ∷ [], tt) (passed b γ) ws)) (fact 𝓤 (c.Says (take n xs) r)))
+      board_said : (ν b : ℕ) (r : Q.type.D) → ent 𝓤 (ensured 𝓛 board_ended (board_clauses 𝓤) (ν ∷ [], tt) (passed b) tt r) (fact 𝓤 (c.Says (take n xs) r))
+      board_said ν b r = ex_e 𝓤 _ (λ ws. snd∗ 𝓤 (sem 𝓛 (lasts board_ended (ν ∷ [], tt) (passed b) ws)) (fact 𝓤 (c.Says (take n xs) r)))
 
       exits : (r : Q.type.D) (v : Val) → Is (row Q) r (v ∷ []) → c.Says (take n xs) r → ent 𝓤 (emp 𝓤) (Post v)
       exits r v is-r e =
@@ -144,12 +146,12 @@ module _ {L Q : Data} {N : ℕ} (m : Lines L N) (c : Call L Q) where
             assigns ! (agg ! (and_then ! (load ! (from ! (stop !)) (look ! 2 refl)) (and_then ! (load ! (from ! (stop !)) (look ! 6 refl)) (no_more !)))) (from ! (stop !)) (init ! 0 refl (tt, (tt, (record { fits = room.0 }, tt)))) $
             -- the first n elements are lent, for a lifetime ν of the call
             lft_new ! tt (λ ν. move ! (5 ∷ []) $
-            use1 𝓛 (later (some (λ (γ : GName). ‵ (part_lent L N 𝓛 (ν ∷ []) l₃ γ (take n xs)) ⊛ (‵ (flent (ν ∷ []) (part_of L N 𝓛 (ν ∷ []) l₃ (take n xs))) ⊛ ‵ (rest_of L N 𝓛 (ν ∷ []) l₃ (take n xs) (behind n xs)))))) (lends_part L N 𝓛 (ν ∷ []) l₃ xs n m.room is) $ await ! tt $ pick ! (λ γ. split3 ! $
-            move ! (3 ∷ 0 ∷ []) $ use2 𝓛 (raw ((Board 𝓛).pre (to_board ν l₃ γ))) (goes_board ν l₃ γ) $
+            use1 𝓛 (later (‵ (part_lent L N 𝓛 (ν ∷ []) l₃ (take n xs)) ⊛ (‵ (flent (ν ∷ []) (lent_of L N 𝓛 (ν ∷ []) l₃ (take n xs))) ⊛ ‵ (rest_of L N 𝓛 (ν ∷ []) l₃ (take n xs) (behind n xs))))) (lends_part L N 𝓛 (ν ∷ []) l₃ xs n m.room is) $ await ! tt $ split3 ! $
+            move ! (3 ∷ 0 ∷ []) $ use2 𝓛 (raw ((Board 𝓛).pre (to_board ν l₃))) (goes_board ν l₃) $
             -- [what the call asks; the lender's part; the elements behind; the locals but for the array that is lent]
-            calls_at ! (fm_of 𝓤 H 𝓛.laws 𝓣) (Board 𝓛) known (to_board ν l₃ γ) (and_then ! (load ! (from ! (stop !)) (look ! 3 refl)) (no_more !)) (λ v.
-            use1 𝓛 (later (some (λ (r : Q.type.D). ((‵ (flft (ν ∷ []) full_share) ⊛ ‵ ftrue) ⊛ ‵ ((row Q).own_val r (v ∷ []))) ⊛ raw (ensured 𝓛 board_ended (board_clauses 𝓤) (ν ∷ [], tt) (passed l₃ γ) tt r)))) (id⊢ 𝓤 _) $ await ! tt $ pick ! (λ r.
-            split ! $ move ! (1 ∷ []) $ use1 𝓛 (raw (fact 𝓤 (c.Says (take n xs) r))) (board_said ν l₃ γ r) $ heard ! (c.Says (take n xs) r) (λ e. split ! $ move ! (1 ∷ []) $
+            calls_at ! (fm_of 𝓤 H 𝓛.laws 𝓣) (Board 𝓛) known (to_board ν l₃) (and_then ! (load ! (from ! (stop !)) (look ! 3 refl)) (no_more !)) (λ v.
+            use1 𝓛 (later (some (λ (r : Q.type.D). ((‵ (flft (ν ∷ []) full_share) ⊛ ‵ ftrue) ⊛ ‵ ((row Q).own_val r (v ∷ []))) ⊛ raw (ensured 𝓛 board_ended (board_clauses 𝓤) (ν ∷ [], tt) (passed l₃) tt r)))) (id⊢ 𝓤 _) $ await ! tt $ pick ! (λ r.
+            split ! $ move ! (1 ∷ []) $ use1 𝓛 (raw (fact 𝓤 (c.Says (take n xs) r))) (board_said ν l₃ r) $ heard ! (c.Says (take n xs) r) (λ e. split ! $ move ! (1 ∷ []) $
             peeks ! (row Q) (Is (row Q)) (shows 𝓛 (row Q)) r (v ∷ []) (λ is-r. drop ! $
             land ! (from ! (stop !)) (init ! 12 refl ((LL.lawful Q.type Q.laws 𝓛).typed r _ is-r).0) $
             -- the lifetime is ended, and the array is whole again
@@ -157,7 +159,7 @@ module _ {L Q : Data} {N : ℕ} (m : Lines L N) (c : Call L Q) where
             -- [the array's room; true; the other locals]
             returns ! (look ! 11 refl) $ forget ! 2 refl $ forget ! 4 refl $ forget ! 7 refl $ forget ! 9 refl $ forget ! 11 refl $
             move ! (11 ∷ 12 ∷ []) $ free1 ! $ move ! (9 ∷ 10 ∷ []) $ free1 ! $ move ! (7 ∷ 8 ∷ []) $ free1 ! $ move ! (0 ∷ 6 ∷ []) $ free1 ! $ move ! (3 ∷ 4 ∷ []) $ free1 ! $ move ! (1 ∷ 2 ∷ []) $ free1 ! $ free0 ! $
-            keep ! [] $ by ! (exits r v is-r e)))))))))))))
+            keep ! [] $ by ! (exits r v is-r e))))))))))))
 
     goes_all : AllGo 𝓛 0 ended.signature.params ended.kept stayed
     goes_all = (Goes-dropped 𝓛 0 (ArrayOf (plain (λ _. row L)) (λ _. tt) N) yes (λ κs. m.silent), (Goes-dropped 𝓛 0 (plain (λ _. usize)) yes (λ κs k f. refl), tt))

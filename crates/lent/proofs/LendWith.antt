@@ -1,6 +1,6 @@
 -- A call that lends the first elements of an array beside a buffer, proved once: `fn call(lines: [Line; N], n: usize, buf: &mut [u8]) -> Written { board(&lines[..n], buf) }`, where n is at most N.
 --     Call         what is said of the call: what the board's call ensures of the elements that it was lent, of the buffer's bytes at entry and in the end, and of its result
---     lend-with    `call`'s MIR meets its contract, from what the board's call ensures. The first n elements are lent for a lifetime that is made here, as in `LendPart.antt`; the buffer is given on for good, at its own lifetime, share and name
+--     lend_with    `call`'s MIR meets its contract, from what the board's call ensures. The first n elements are lent for a lifetime that is made here, as in `LendPart.antt`; the buffer is given on for good, at its own lifetime, share and name
 -- No field of an element is named, so a new one changes nothing here.
 -- Assumes nothing.
 use mathlib.Core.Path.{◌≡◌, refl, sym, subst}
@@ -8,26 +8,28 @@ use Prim.Native.Nat.{ℕ, ◌≤◌, ◌<◌, ◌^◌}
 use mathlib.Core.List.{[], ◌∷◌, List}
 use lib.ListN.{length, take, drop as behind}
 use seplogic.Ra.Ura.{Ura}
-use seplogic.Ra.TreeShare.{full_share}
-use mir.Syntax.{Name, Fn, named, erased, imm, mut, w8, w64, ty_int, ty_ref, ty_array, deref, field, place, copy, local, value_local, memory_slot, seq, assign, call, return, rv_opd, addr_of, aggregate}
+use base.Fraction.{full_share}
+use mir.Syntax.{Callee, Fn, named, erased, imm, mut, w8, w64, ty_int, ty_ref, ty_array, deref, field, place, copy, local, value_local, memory_slot, seq, assign, call, return, rv_opd, addr_of, aggregate}
 use mir.Val.{Val, vint}
 use base.Logic.{SProp, ent, emp, id⊢}
-use base.Fml.{GName, Lft, Share, Fml, ftrue, flft, flent, fat, froom}
+use base.Fml.{GName, Lft, Share, Fml, ftrue, flft, flent, fat, froom, fsep, fbor}
 use prog.Wp.{WpFn, Tables}
 use types.Logic.{Logic}
 use contract.Monad.{fact}
 use types.Kit.{‵, raw, ◌⊛◌, ⋆, some, later, ◌$◌, ◌∵◌, !, qed, by, move, keep, drop, use1, use3, split, split3, join, pick, rewrite, fsplit, fjoin, feq_l, suffices, frame, await, done}
 use types.Tokens.{lft_new, lft_end}
 use types.Run.{look, init, forget, stop, hop, fld, from, load, addr, of_opd, and_then, no_more, land, assigns, returns, enter, alloc1, alloc0, params1, pass1, pass0, free1, free0}
+use types.SemTy.{Body, Arr}
+use types.Hole.{Holey}
 use types.Part.{agg, whole, sub, look_in}
 use sound.WpLaws.{fm_of, WpFn-mono}
 use denote.RattleType.{owns}
 use denote.Laws.{Is, shows}
-use denote.Memory.{pointee}
+use denote.Memory.{mem, pointee}
 use denote.Plain.{uint_vals, uint_Tells}
 use denote.Builtin.{ArrayOf, SliceRefOf, SliceRefMutOf, u8, usize}
 use denote.Array.{array_vals, Array-Tells, Array-Lawful}
-use denote.Ref.{MutBor}
+use denote.Ref.{Bor, MutBor}
 use denote.Slice.{Room, MutSlice, slice_ty, slice_val, finally, mut_slice_vals, mut_slice_Tells}
 use denote.Signature.{plain}
 use denote.Steps.{peeks, heard, nothing}
@@ -43,12 +45,12 @@ use lib.Seq.{length-take-le}
 use borrow.Rule.Array.Share.{Room-take}
 use Rattle.board.proofs.Data.{Data, row, vals}
 use Rattle.board.proofs.Relay.{Result}
-use Rattle.lent.proofs.Slicing.{all, all_ty, all_val, part_lent, part_of, rest_of, lends_part, part_back}
+use Rattle.lent.proofs.Slicing.{all, all_ty, all_val, part_lent, lent_of, rest_of, lends_part, part_back}
 use Rattle.lent.proofs.LendPart.{Lines}
 
 -- what is said of the call. The board's call ensures `Says` of the elements that it was lent, the buffer's bytes at entry, its result and the bytes in the end; `call` requires that n is at most N, and ensures `Says` of the first n elements and the rest
 pub record Call (L : Data) (R : Result) : Type 1 where
-  pub key : Name
+  pub key : Callee
   pub Says : List L.type.D → List ℕ → R.row.Denot → List ℕ → Type 0
 
 module _ {L : Data} {R : Result} {N : ℕ} (m : Lines L N) (c : Call L R) where
@@ -73,6 +75,8 @@ module _ {L : Data} {R : Result} {N : ℕ} (m : Lines L N) (c : Call L R) where
   function = record {
     lifetimes = 1;
     outlives = [];
+    ty_params = [];
+    givens = 0;
     params = 3;
     locals = local R.mir value_local ∷ local (all_ty L N) value_local ∷ local (ty_int w64) value_local ∷ local (slice_ty (ty_ref (named 0) mut (ty_int w8))) value_local ∷ local (all_ty L N) memory_slot ∷ local (ty_ref erased imm (ty_array (pointee (row L).written) N)) value_local ∷ local (slice_ty (ty_ref erased imm (pointee (row L).written))) value_local ∷ local (ty_ref erased mut (ty_int w8)) value_local ∷ local (slice_ty (ty_ref erased mut (ty_int w8))) value_local ∷ [];
     body = seq (assign (place 4 []) (rv_opd (copy (place 1 []))))
@@ -117,25 +121,29 @@ module _ {L : Data} {R : Result} {N : ℕ} (m : Lines L N) (c : Call L R) where
       room : Room (row L) (length (take n xs))
       room = Room-take (row L) N n xs counted m.room
 
-      -- what the board's call is passed: the first n elements of the local at b, lent for the lifetime ν under the name γ; and the buffer, at its own lifetime, share and name
-      abbrev passed : ℕ → GName → MutBor (List L.type.D) × (MutBor (List ℕ) × Unit {0})
-      passed b γ = (record { ref_ptr = (b, 0); ghost_name = γ; now = take n xs }, (buf, tt))
+      -- what the board's call is passed: the first n elements of the local at b, lent for the lifetime ν; and the buffer, at its own lifetime, share and name
+      abbrev passed : ℕ → Bor (List L.type.D) × (MutBor (List ℕ) × Unit {0})
+      passed b = (record { ref_ptr = (b, 0); now = take n xs }, (buf, tt))
 
-      abbrev to_board : ℕ → ℕ → GName → (Board 𝓛).Ghost
-      to_board ν b γ = (((ν ∷ [], (κ, tt)), (full_share, (q, tt)), tt, passed b γ, (slice_val (b, 0) (length (take n xs)) ∷ [], (v' ∷ [], tt))), tt)
+      abbrev to_board : ℕ → ℕ → (Board 𝓛).Ghost
+      to_board ν b = (((ν ∷ [], (κ, tt)), (full_share, (q, tt)), tt, passed b, (slice_val (b, 0) (length (take n xs)) ∷ [], (v' ∷ [], tt))), tt)
 
       abbrev Held : Fml
       Held = (MutSlice (named 0) κ u8).own_val buf (v' ∷ [])
 
-      goes_board : (ν b : ℕ) (γ : GName) → ent 𝓤 (⋆ 𝓛 ((‵ (flft (ν ∷ []) full_share) ⊛ ‵ (flft κ q)) ∷ ‵ (part_lent L N 𝓛 (ν ∷ []) b γ (take n xs)) ∷ ‵ Held ∷ [])) ((Board 𝓛).pre (to_board ν b γ))
-      goes_board ν b γ =
-          qed 𝓛 ((‵ (flft (ν ∷ []) full_share) ⊛ ‵ (flft κ q)) ∷ ‵ (part_lent L N 𝓛 (ν ∷ []) b γ (take n xs)) ∷ ‵ Held ∷ []) ∵ split ! $ nothing ! $ move ! (4 ∷ 0 ∷ []) $ fjoin ! $ move ! (3 ∷ 0 ∷ []) $ fjoin ! $
+      goes_board : (ν b : ℕ) → ent 𝓤 (⋆ 𝓛 ((‵ (flft (ν ∷ []) full_share) ⊛ ‵ (flft κ q)) ∷ ‵ (part_lent L N 𝓛 (ν ∷ []) b (take n xs)) ∷ ‵ Held ∷ [])) ((Board 𝓛).pre (to_board ν b))
+      goes_board ν b =
+          qed 𝓛 ((‵ (flft (ν ∷ []) full_share) ⊛ ‵ (flft κ q)) ∷ ‵ (part_lent L N 𝓛 (ν ∷ []) b (take n xs)) ∷ ‵ Held ∷ []) ∵ split ! $ nothing ! $ move ! (4 ∷ 0 ∷ []) $ fjoin ! $ move ! (3 ∷ 0 ∷ []) $ fjoin ! $
           nothing ! $ move ! (3 ∷ 0 ∷ []) $ join ! $ move ! (2 ∷ 0 ∷ []) $ join ! $ join ! $ frame ! $ done !
 
+      -- the buffer's borrow, which the board's call hands back closed
+      abbrev Closed : Fml
+      Closed = fbor κ (Body (Arr (Holey (mem u8)) (length old)) b' o' γ')
+
       exits : (r : R.row.Denot) (w : Val) (new : List ℕ) → c.Says (take n xs) old r new → length new ≡ length old
-          → ent 𝓤 (⋆ 𝓛 (‵ (flft κ q) ∷ ‵ (finally u8 γ' new) ∷ ‵ (R.row.own_val r (w ∷ [])) ∷ [])) (Post w)
+          → ent 𝓤 (⋆ 𝓛 (‵ (flft κ q) ∷ ‵ (fsep (finally u8 γ' new) Closed) ∷ ‵ (R.row.own_val r (w ∷ [])) ∷ [])) (Post w)
       exits r w new e l =
-          qed 𝓛 (‵ (flft κ q) ∷ ‵ (finally u8 γ' new) ∷ ‵ (R.row.own_val r (w ∷ [])) ∷ []) ∵
+          qed 𝓛 (‵ (flft κ q) ∷ ‵ (fsep (finally u8 γ' new) Closed) ∷ ‵ (R.row.own_val r (w ∷ [])) ∷ []) ∵
           suffices ! _ (ends_at 𝓛 ended stayed (clauses 𝓤) (((κ, tt), (q, tt), tt, x, at), tt) w r (m.last xs, (tt, (new, tt))) (tt, (tt, (l, tt)))) $ says ! e $
           nothing ! $ move ! (1 ∷ 0 ∷ []) $ join ! $ frame ! $
           nothing ! $ move ! (1 ∷ 0 ∷ []) $ fjoin ! $ nothing ! $ fjoin ! $ nothing ! $ fjoin ! $ done !
@@ -156,25 +164,25 @@ module _ {L : Data} {R : Result} {N : ℕ} (m : Lines L N) (c : Call L R) where
             assigns ! (agg ! (and_then ! (load ! (from ! (stop !)) (look ! 2 refl)) (and_then ! (load ! (from ! (fld ! refl (stop !))) (look_in ! 10 (sub ! 1 refl (whole !)))) (no_more !)))) (from ! (stop !)) (init ! 0 refl (tt, (tt, (record { fits = room'.0 }, tt)))) $
             -- the first n elements are lent, for a lifetime ν of the call
             lft_new ! tt (λ ν. move ! (9 ∷ []) $
-            use1 𝓛 (later (some (λ (γ : GName). ‵ (part_lent L N 𝓛 (ν ∷ []) l₄ γ (take n xs)) ⊛ (‵ (flent (ν ∷ []) (part_of L N 𝓛 (ν ∷ []) l₄ (take n xs))) ⊛ ‵ (rest_of L N 𝓛 (ν ∷ []) l₄ (take n xs) (behind n xs)))))) (lends_part L N 𝓛 (ν ∷ []) l₄ xs n m.room is) $ await ! tt $ pick ! (λ γ. split3 ! $
+            use1 𝓛 (later (‵ (part_lent L N 𝓛 (ν ∷ []) l₄ (take n xs)) ⊛ (‵ (flent (ν ∷ []) (lent_of L N 𝓛 (ν ∷ []) l₄ (take n xs))) ⊛ ‵ (rest_of L N 𝓛 (ν ∷ []) l₄ (take n xs) (behind n xs))))) (lends_part L N 𝓛 (ν ∷ []) l₄ xs n m.room is) $ await ! tt $ split3 ! $
             -- [the elements that are lent; the lender's part; the elements behind; the lifetime's token; the locals but for the array that is lent; the buffer's token; the buffer]
-            move ! (3 ∷ 21 ∷ 0 ∷ 22 ∷ []) $ join ! $ use3 𝓛 (raw ((Board 𝓛).pre (to_board ν l₄ γ))) (goes_board ν l₄ γ) $
+            move ! (3 ∷ 21 ∷ 0 ∷ 22 ∷ []) $ join ! $ use3 𝓛 (raw ((Board 𝓛).pre (to_board ν l₄))) (goes_board ν l₄) $
             -- [what the call asks; the lender's part; the elements behind; the locals but for the array that is lent]
-            calls_at ! (fm_of 𝓤 H 𝓛.laws 𝓣) (Board 𝓛) known (to_board ν l₄ γ) (and_then ! (load ! (from ! (stop !)) (look ! 7 refl)) (and_then ! (load ! (from ! (stop !)) (look ! 3 refl)) (no_more !))) (λ w.
-            use1 𝓛 (later (some (λ (r : R.row.Denot). ((‵ (flft (ν ∷ []) full_share) ⊛ ‵ (flft κ q) ⊛ ‵ ftrue) ⊛ ‵ (R.row.own_val r (w ∷ []))) ⊛ raw (ensured 𝓛 board_ended (board_clauses 𝓤) (ν ∷ [], (κ, tt)) (passed l₄ γ) tt r)))) (id⊢ 𝓤 _) $ await ! tt $ pick ! (λ r.
+            calls_at ! (fm_of 𝓤 H 𝓛.laws 𝓣) (Board 𝓛) known (to_board ν l₄) (and_then ! (load ! (from ! (stop !)) (look ! 7 refl)) (and_then ! (load ! (from ! (stop !)) (look ! 3 refl)) (no_more !))) (λ w.
+            use1 𝓛 (later (some (λ (r : R.row.Denot). ((‵ (flft (ν ∷ []) full_share) ⊛ ‵ (flft κ q) ⊛ ‵ ftrue) ⊛ ‵ (R.row.own_val r (w ∷ []))) ⊛ raw (ensured 𝓛 board_ended (board_clauses 𝓤) (ν ∷ [], (κ, tt)) (passed l₄) tt r)))) (id⊢ 𝓤 _) $ await ! tt $ pick ! (λ r.
             -- what the board's call ensures, at some last bytes
-            split ! $ move ! (1 ∷ []) $ use1 𝓛 (some (λ (ws : Lasts board_ended (ν ∷ [], (κ, tt)) (passed l₄ γ)). ‵ (lasts board_ended (ν ∷ [], (κ, tt)) (passed l₄ γ) ws) ⊛ raw (fact 𝓤 (c.Says (take n xs) old r ws.1.0)))) (id⊢ 𝓤 _) $ pick ! (λ ws.
-            split ! $ move ! (1 ∷ []) $ heard ! (c.Says (take n xs) old r ws.1.0) (λ e. fsplit ! $ drop ! $ fsplit ! $ fsplit ! $ move ! (1 ∷ []) $ feq_l ! (λ l.
-            -- [the last bytes; true; the tokens and the result; the lender's part; the elements behind; the locals]
+            split ! $ move ! (1 ∷ []) $ use1 𝓛 (some (λ (ws : Lasts board_ended (ν ∷ [], (κ, tt)) (passed l₄)). ‵ (lasts board_ended (ν ∷ [], (κ, tt)) (passed l₄) ws) ⊛ raw (fact 𝓤 (c.Says (take n xs) old r ws.1.0)))) (id⊢ 𝓤 _) $ pick ! (λ ws.
+            split ! $ move ! (1 ∷ []) $ heard ! (c.Says (take n xs) old r ws.1.0) (λ e. fsplit ! $ drop ! $ fsplit ! $ fsplit ! $ fsplit ! $ move ! (1 ∷ []) $ feq_l ! (λ l. fjoin ! $
+            -- [the last bytes and the borrow; true; the tokens and the result; the lender's part; the elements behind; the locals]
             move ! (2 ∷ []) $ split ! $ split3 ! $ move ! (3 ∷ []) $ peeks ! R.row (Is R.row) (shows 𝓛 R.row) r (w ∷ []) (λ is-r.
-            -- [the result; the lifetime's token; the buffer's token; true; the last bytes; true; the lender's part; the elements behind; the locals]
+            -- [the result; the lifetime's token; the buffer's token; true; the last bytes and the borrow; true; the lender's part; the elements behind; the locals]
             land ! (from ! (stop !)) (init ! 23 refl (R.typed 𝓛 r w is-r)) $
             -- the lifetime is ended, and the array is whole again
             move ! (1 ∷ []) $ lft_end ! tt $ move ! (0 ∷ 6 ∷ 7 ∷ []) $ use3 𝓛 (later (‵ (froom (all_ty L N) l₄ 0))) (part_back L N 𝓛 (ν ∷ []) l₄ xs n counted) $ await ! tt $
-            -- [the array's room; the result; the buffer's token; true; the last bytes; true; the other locals]
+            -- [the array's room; the result; the buffer's token; true; the last bytes and the borrow; true; the other locals]
             returns ! (look ! 21 refl) $ forget ! 6 refl $ forget ! 8 refl $ forget ! 10 refl $ forget ! 12 refl $ forget ! 15 refl $ forget ! 17 refl $ forget ! 19 refl $ forget ! 21 refl $
             move ! (21 ∷ 22 ∷ []) $ free1 ! $ move ! (19 ∷ 20 ∷ []) $ free1 ! $ move ! (17 ∷ 18 ∷ []) $ free1 ! $ move ! (15 ∷ 16 ∷ []) $ free1 ! $ move ! (0 ∷ 14 ∷ []) $ free1 ! $ move ! (11 ∷ 12 ∷ []) $ free1 ! $ move ! (9 ∷ 10 ∷ []) $ free1 ! $ move ! (7 ∷ 8 ∷ []) $ free1 ! $ move ! (5 ∷ 6 ∷ []) $ free1 ! $ free0 ! $
-            keep ! (1 ∷ 3 ∷ 0 ∷ []) $ by ! (exits r w ws.1.0 e l))))))))))))))))))
+            keep ! (1 ∷ 3 ∷ 0 ∷ []) $ by ! (exits r w ws.1.0 e l)))))))))))))))))
 
     goes_all : AllGo 𝓛 1 ended.signature.params ended.kept stayed
     goes_all = (Goes-dropped 𝓛 1 (ArrayOf (plain (λ _. row L)) (λ _. tt) N) yes (λ κs. m.silent), (Goes-dropped 𝓛 1 (plain (λ _. usize)) yes (λ κs k f. refl), (Goes-gave_slice 𝓛 1 0 tt (plain (λ _. u8)), tt)))

@@ -1,15 +1,15 @@
 -- A struct of plain data in a local: it is lent by `&mut` for a lifetime, and comes back with the last value of the reference; or it is lent by `&`, and comes back as it was.
 --     lends        the local's cell  ⊢ ⇛ ∃ γ. the `&κ mut` of it, and the lender's part
 --     back         [†κ], the lender's part and the last value y  ⊢ ⇛ the local's cell, which holds y
---     lends_shared the local's cell  ⊢ ⇛ ∃ γ. the `&κ` of it, and the lender's part
+--     lends_shared the local's cell  ⊢ ⇛ the `&κ` of it, and the lender's part
 --     shared_back  [†κ] and the lender's part  ⊢ ⇛ the local's cell, as it was
---     Made         a struct of two such, which can be made of the two.        made-is       what is known of its machine value, from what is known of theirs
+--     Made         a struct of two such, which can be made of the two.        made_is       what is known of its machine value, from what is known of theirs
 -- Assumes nothing.
 use mathlib.Core.Path.{◌≡◌, refl, sym, subst}
 use Prim.Native.Nat.{ℕ}
 use mathlib.Core.List.{List, [], ◌∷◌}
 use seplogic.Ra.Ura.{Ura}
-use seplogic.Ra.TreeShare.{full_share}
+use base.Fraction.{full_share}
 use mir.Syntax.{named}
 use mir.Raw.{raw as raw_ty}
 use mir.Val.{Val, vptr}
@@ -22,7 +22,7 @@ use types.SemTy.{Body}
 use denote.Laws.{Is, shows}
 use denote.Memory.{mem, part_at, part_of, cell_at}
 use denote.Ref.{MutRef, ShrRef}
-use denote.Lend.{lends_ref, ref_back, lends_shr}
+use denote.Lend.{lends_ref, ref_back, lends_free}
 use denote.Steps.{owned, peeks}
 use denote.Exit.{Last, left, yes}
 use denote.Struct.Struct.{Plains}
@@ -58,19 +58,19 @@ module _ (S : Data) {M : Type 1} {𝓤 : Ura M} (𝓛 : Logic 𝓤) (κ : Lft) (
       use1 𝓛 (‵ (cell y)) (𝓛.laws.raw_at full_share (ty S) b 0 (val S y)) $ at_once ! $ check ! (subst (Is (row S) y) (LL.tells S.type S.laws y vs is) is) $ done !))
 
   -- the same by `&`: the reference, and what the lender is to have back
-  abbrev pub shared : GName → S.type.D → Fml
-  shared γ h = (ShrRef (named 0) κ (row S)).own_val (record { ref_ptr = (b, 0); now = h }) (vptr b 0 ∷ [])
+  abbrev pub shared : S.type.D → Fml
+  shared h = (ShrRef (named 0) κ (row S)).own_val (record { ref_ptr = (b, 0); now = h }) (vptr b 0 ∷ [])
 
   abbrev pub held : S.type.D → Fml
   held h = part_at (row S) full_share h b 0
 
-  pub lends_shared : (h : S.type.D) → Is (row S) h (vals S h) → ent 𝓤 (sem 𝓛 (cell h)) (H.⇛ (ex 𝓤 (λ (γ : GName). sep 𝓤 (sem 𝓛 (shared γ h)) (A.lent κ (held h)))))
+  pub lends_shared : (h : S.type.D) → Is (row S) h (vals S h) → ent 𝓤 (sem 𝓛 (cell h)) (H.⇛ (sep 𝓤 (sem 𝓛 (shared h)) (A.lent κ (held h))))
   unfolding part_of
   lends_shared h is =
       qed 𝓛 (‵ (cell h) ∷ []) ∵ updating ! $ use1 𝓛 (‵ (fat full_share (raw_ty (ty S)) b 0 (val S h))) (𝓛.laws.at_raw full_share (ty S) b 0 (val S h)) $
       owned ! (row S) (Is (row S)) (LL.makes S.type S.plain 𝓛) h (vals S h) is $ move ! (1 ∷ 0 ∷ []) $ fjoin ! $
       fpack ! (List Val) (λ us. fsep (cell_at full_share (row S).mir us b 0) ((row S).own_val h us)) (vals S h) $
-      use1 𝓛 (later (some (λ (γ : GName). ‵ (shared γ h) ⊛ ‵ (flent κ (held h))))) (lends_shr 𝓛 (row S) (named 0) κ full_share h b 0) $ await ! tt $ at_once ! $ done !
+      use1 𝓛 (later (‵ (shared h) ⊛ ‵ (flent κ (held h)))) (lends_free 𝓛 (row S) (named 0) κ full_share h b 0 ((LL.copied S.type S.copies 𝓛).lends full_share h b 0)) $ await ! tt $ at_once ! $ done !
 
   pub shared_back : (h : S.type.D) → ent 𝓤 (sep 𝓤 (A.dead κ) (A.lent κ (held h))) (H.⇛ (sem 𝓛 (cell h)))
   unfolding part_of

@@ -15,7 +15,7 @@ use Rattle.rules.specs.Print.{decimal_in, decimal, comma_tasks, tasks_text}
 use Rattle.rules.proofs.Lists.{sets_append}
 use Rattle.print.specs.Buffers.{fits_at, Put}
 
--- ---- one text commaTasks another
+-- ---- one text comma_tasks another
 
 cut_both : (m : ℕ) (p q : List ℕ) → take m (p ++ q) ≡ take m p ++ take (m - length p) q
 cut_both zero p q = rw zero-sub

@@ -1,11 +1,7 @@
 -- What is put for a tape is tape_why's print. Assumes nothing.
 use Prim.Native.Nat.{ℕ}
 use mathlib.Core.Path.{◌≡◌, refl, sym, ap, ◌∙◌}
-use mathlib.Core.Logic.{⊎_elim}
-use mathlib.Core.List.{List, [], ◌∷◌, ◌++◌}
-use denote.Enum.Declared.{tag_of}
-use types.Run.{OneOf}
-use native.Mathlib.Omega.{arith}
+use mathlib.Core.List.{List, ◌++◌}
 use Rattle.rules.specs.declared.Opening.{Opening}
 use Rattle.rules.specs.declared.Opening.TheVariants.{Accepted, BadTable, BadTape}
 use Rattle.rules.specs.Table.{Table, fine, check}
@@ -15,7 +11,6 @@ use Rattle.rules.specs.Tape.{zero_tick, Stop, at_end, at_refusal, Records, recor
 use Rattle.rules.specs.Print.{stop_text, opening, opening_text}
 use Rattle.rules.specs.Print as print
 use Rattle.rules.specs.WhyPrint.{why_lines, why_records, why_transcript}
-use Rattle.rules.specs.contracts.Opening.{the_type}
 use Rattle.rules.proofs.Checked.{keeps_found, found_keeps}
 use Rattle.rules.proofs.Reached.{head_board, reached_fresh}
 use Rattle.scheduler.specs.State.{table_of, head_of}
@@ -66,10 +61,10 @@ module _ (tape : List ℕ) where
       ∙ ran_text_lem o.table f rs
       ∙ sym (printed_as tape Accepted a)
 
-  pub refused_text : (x : Opened) → x ≡ opened_of tape → OneOf (1 ∷ 2 ∷ []) (tag_of the_type x.answer) → opening_text x.answer ≡ why_transcript tape
+  pub refused_text : (x : Opened) → x ≡ opened_of tape → (x.answer ≡ Accepted → ⊥) → opening_text x.answer ≡ why_transcript tape
   refused_text x e t = go x.answer (sym answer_is ∙ sym (ap (λ (z : Opened). z.answer) e)) t
     where
-      go : (a : Opening) → o.answer ≡ a → OneOf (1 ∷ 2 ∷ []) (tag_of the_type a) → opening_text a ≡ why_transcript tape
-      go Accepted q t = absurd (⊎_elim {C = ⊥} (λ (z : ◌≡◌ {A = ℕ} 0 1). omega arith) (λ (z : ◌≡◌ {A = ℕ} 0 2). omega arith) t)
+      go : (a : Opening) → o.answer ≡ a → (a ≡ Accepted → ⊥) → opening_text a ≡ why_transcript tape
+      go Accepted q t = absurd (t refl)
       go (BadTable v) q t = sym (printed_as tape (BadTable v) q)
       go (BadTape n p) q t = sym (printed_as tape (BadTape n p) q)

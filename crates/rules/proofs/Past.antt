@@ -1,4 +1,4 @@
--- The late rule `isPast`: the laws that the rest of the theory knows of it. A change of the rule is proved here, and nowhere else. Assumes nothing.
+-- The late rule `is_past`: the laws that the rest of the theory knows of it. A change of the rule is proved here, and nowhere else. Assumes nothing.
 use Prim.Native.Nat.{ℕ, ◌<◌, ◌≤◌}
 use mathlib.Core.Path.{◌≡◌, refl, ap, sym, ◌∙◌}
 use mathlib.Core.Bool.{Bool, true, false, not, ◌&&◌, ◌||◌, and_comm}

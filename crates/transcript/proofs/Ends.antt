@@ -1,11 +1,7 @@
 -- A tape is run to where it stops, record by record. Assumes nothing.
 use Prim.Native.Nat.{ℕ}
-use mathlib.Core.Path.{◌≡◌, sym, ap, ◌∙◌}
-use mathlib.Core.Logic.{⊎_elim}
-use mathlib.Core.List.{List, [], ◌∷◌}
-use denote.Enum.Declared.{tag_of}
-use types.Run.{OneOf}
-use native.Mathlib.Omega.{arith}
+use mathlib.Core.Path.{◌≡◌, refl, sym, ap, ◌∙◌}
+use mathlib.Core.List.{List}
 use Rattle.rules.specs.declared.Tick.{Tick}
 use Rattle.rules.specs.declared.Call.{Call}
 use Rattle.rules.specs.declared.RecordRead.{RecordRead}
@@ -14,7 +10,6 @@ use Rattle.rules.specs.Table.{Table}
 use Rattle.rules.specs.Calls.{tick_of}
 use Rattle.rules.specs.Run.{Head, head_next, Reached}
 use Rattle.rules.specs.Tape.{after_record, records_at}
-use Rattle.rules.specs.contracts.RecordRead.{the_type}
 use Rattle.rules.proofs.Reached.{reached_next}
 use Rattle.tape.proofs.Tapes.{records_step}
 use Rattle.scheduler.specs.declared.State.{State}
@@ -37,8 +32,8 @@ module _ (T : Table) (h : Head) (r : Reached T h) (tape : List ℕ) (at : ℕ) (
   ran_read : (x : RecordRead) → read_in tape here ≡ x → ran_of tape here ≡ ran_by T h (after_record at x (records_at tape))
   ran_read x e = ran_is ∙ ap (ran_by T h) (records_step tape at preceding ∙ ap (λ z. after_record at z (records_at tape)) e)
 
-  halts : (x : RecordRead) → read_in tape here ≡ x → OneOf (1 ∷ 2 ∷ []) (tag_of the_type x) → record { state = state_of T h; halt = halt_of at x } ≡ ran_of tape here
-  halts (Record e n) q o = absurd (⊎_elim {C = ⊥} (λ (z : ◌≡◌ {A = ℕ} 0 1). omega arith) (λ (z : ◌≡◌ {A = ℕ} 0 2). omega arith) o)
+  halts : (x : RecordRead) → read_in tape here ≡ x → ((e : Call) (n : ℕ) → x ≡ Record e n → ⊥) → record { state = state_of T h; halt = halt_of at x } ≡ ran_of tape here
+  halts (Record e n) q o = absurd (o e n refl)
   halts End q o = sym (ran_read End q)
   halts (Refused k) q o = sym (ran_read (Refused k) q)
 
@@ -58,7 +53,7 @@ ran_on tape x d e n =
     (λ T h r. goes T h r tape x.at x.preceding e n) x.state d
 
 -- nothing is left where the reader gives no record
-pub ran_stops : (tape : List ℕ) (x : Run) → Handed x.state → (y : RecordRead) → read_in tape x ≡ y → OneOf (1 ∷ 2 ∷ []) (tag_of the_type y)
+pub ran_stops : (tape : List ℕ) (x : Run) → Handed x.state → (y : RecordRead) → read_in tape x ≡ y → ((e : Call) (n : ℕ) → y ≡ Record e n → ⊥)
     → record { state = x.state; halt = halt_of x.at y } ≡ ran_of tape x
 ran_stops tape x d y q o =
     handed_by (λ (s : State). record { state = s; halt = halt_of x.at y } ≡ ran_of tape (record { state = s; at = x.at; preceding = x.preceding }))

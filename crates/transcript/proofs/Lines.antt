@@ -3,13 +3,12 @@ use Prim.Native.Nat.{ℕ, ◌+◌, ◌-◌, ◌≤◌, ◌<◌}
 use mathlib.Core.Path.{◌≡◌, refl, sym, ap, ◌∙◌, subst⁻¹}
 use mathlib.Core.Bool.{Bool, true, false, not, cond, false≢true}
 use mathlib.Core.Logic.{◌⊎◌, inl, inr, ⊎_elim}
-use denote.Enum.Declared.{tag_of}
-use types.Run.{OneOf}
 use native.Mathlib.Omega.{arith}
 use lib.ListN.{length, take, length-append, length-take}
 use lib.Seq.{sets, length-sets, sets-eq, take_all, take-append_seam}
-use mathlib.Core.List.{List, [], ◌∷◌, ◌++◌, append-nil, append_assoc}
+use mathlib.Core.List.{List, [], ◌++◌, append-nil, append_assoc}
 use Rattle.rules.specs.declared.Tick.{Tick}
+use Rattle.rules.specs.declared.Call.{Call}
 use Rattle.rules.specs.declared.RecordRead.{RecordRead}
 use Rattle.rules.specs.declared.RecordRead.TheVariants.{Record, End, Refused}
 use Rattle.rules.specs.Table.{Table}
@@ -18,7 +17,6 @@ use Rattle.rules.specs.Layer.{next, answer}
 use Rattle.rules.specs.Run.{Head, head_next, Reached}
 use Rattle.rules.specs.Tape.{after_record, records_at}
 use Rattle.rules.specs.Print.{ended, answer_text, tape_text, calls_text, records_text}
-use Rattle.rules.specs.contracts.RecordRead.{the_type}
 use Rattle.rules.proofs.Reached.{reached_next}
 use Rattle.tape.proofs.Records.{forward}
 use Rattle.tape.proofs.Tapes.{records_step}
@@ -123,8 +121,8 @@ line_piece tape x old at r new d room l =
 -- ---- what stops a run
 
 -- an answer of the reader that is no record
-pub stops : (x : Run) (r : RecordRead) → OneOf (1 ∷ 2 ∷ []) (tag_of the_type r) → (goes_on r ≡ false) × (line_text x r ≡ stop_line x.at r) × (run_after x r ≡ x)
-stops x (Record e n) h = absurd (⊎_elim {C = ⊥} (λ (z : ◌≡◌ {A = ℕ} 0 1). omega arith) (λ (z : ◌≡◌ {A = ℕ} 0 2). omega arith) h)
+pub stops : (x : Run) (r : RecordRead) → ((e : Call) (n : ℕ) → r ≡ Record e n → ⊥) → (goes_on r ≡ false) × (line_text x r ≡ stop_line x.at r) × (run_after x r ≡ x)
+stops x (Record e n) h = absurd (h e n refl)
 stops x End h = (refl, refl, refl)
 stops x (Refused k) h = (refl, refl, refl)
 

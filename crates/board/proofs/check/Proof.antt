@@ -2,7 +2,7 @@
 use mathlib.Core.Path.{◌≡◌, ◌∙◌}
 use contract.Running.{tables, tables_of}
 use denote.Triple.Spec.{triple_of}
-use denote.Triple.Table.{entered, cited}
+use denote.Triple.Table.{entered}
 use Rattle.rules.specs.Table.{no_line}
 use Rattle.table.specs.Copy.{lines_read_of, begun_of, pushed_of}
 use Rattle.table.proofs.begun.Symbol as begin_def
@@ -17,10 +17,9 @@ use Rattle.scheduler.proofs.check.Met as finish_thm
 use Rattle.board.specs.Lent.{LinesChecked}
 use Rattle.board.proofs.Copies.{table_reads_le, checks_lines}
 use Rattle.board.proofs.Structs.{line, table, checked}
-use Rattle.board.proofs.Lines.{Reader, Begin, Few, Push, Finish, reads_lines}
-use Rattle.board.specs.contracts.check.Key.{name as #board·check}
+use Rattle.board.proofs.Lines.{Reader, reads_lines}
 use Rattle.board.specs.contracts.check as f
-use Rattle.board.proofs.check.Statement as stated
+use Rattle.board.proofs.check.Statement.{statement}
 use Rattle.board.proofs.check.Code as code
 
 abbrev this : Reader line table checked
@@ -40,13 +39,13 @@ this = record {
   small = tt;
 }
 
-pub check_spec : {M : Type 1} → stated.statement M
-unfolding code.routine tables_of
-check_spec 𝓤 𝓛 𝓜 𝓡 =
-    entered 𝓤 𝓛.H (triple_of 𝓛 f.signature (f.spec 𝓛 𝓜.mem 𝓡.run))
-    (tables 𝓤 𝓛.H 𝓜 𝓡 code.env).C (tables 𝓤 𝓛.H 𝓜 𝓡 code.env).Λ #board·check code.function (code.unfolded 𝓤 𝓛.H 𝓜 𝓡)
-    (reads_lines this 𝓛 (tables_of 𝓤 𝓛.H 𝓜 (tables 𝓤 𝓛.H 𝓜 𝓡 code.env))
-    (cited 𝓤 𝓛.H (Begin this 𝓛) 𝓜 𝓡 code.env begin_def.name begin_def.routine code.calls-table::begun (begin_thm.met 𝓤 𝓛 𝓜 𝓡))
-    (cited 𝓤 𝓛.H (Few this 𝓛) 𝓜 𝓡 code.env few_def.name few_def.routine code.calls-table::lines-read (few_thm.met 𝓤 𝓛 𝓜 𝓡))
-    (cited 𝓤 𝓛.H (Push this 𝓛) 𝓜 𝓡 code.env push_def.name push_def.routine code.calls-table::pushed (push_thm.met 𝓤 𝓛 𝓜 𝓡))
-    (cited 𝓤 𝓛.H (Finish this 𝓛) 𝓜 𝓡 code.env finish_def.name finish_def.routine code.calls-scheduler::check (finish_thm.met 𝓤 𝓛 𝓜 𝓡)))
+pub check_spec : {M : Type 1} → statement M
+unfolding tables_of
+check_spec 𝓤 𝓛 𝓜 𝓡 wired =
+    let 𝓣 = tables 𝓤 𝓛.H 𝓜 𝓡 𝓡.env in
+    entered 𝓤 𝓛.H (triple_of 𝓛 f.signature (f.spec 𝓛 𝓜.mem 𝓡.returns)) 𝓣.C 𝓣.Λ f.Key.name code.function (code.unfolded 𝓤 𝓛.H 𝓜 𝓡 wired)
+    (reads_lines this 𝓛 (tables_of 𝓤 𝓛.H 𝓜 𝓣)
+    (begin_thm.met 𝓤 𝓛 𝓜 𝓡 (code.calls-table::begun 𝓡.env wired))
+    (few_thm.met 𝓤 𝓛 𝓜 𝓡 (code.calls-table::lines_read 𝓡.env wired))
+    (push_thm.met 𝓤 𝓛 𝓜 𝓡 (code.calls-table::pushed 𝓡.env wired))
+    (finish_thm.met 𝓤 𝓛 𝓜 𝓡 (code.calls-scheduler::check 𝓡.env wired)))

@@ -3,25 +3,23 @@ use mathlib.Core.Path.{◌≡◌}
 use mir.Syntax.{w8}
 use contract.Running.{tables, tables_of}
 use denote.Triple.Spec.{triple_of}
-use denote.Triple.Table.{entered, cited}
+use denote.Triple.Table.{entered}
 use Rattle.scheduler.specs.State.{Handed, why_of}
 use Rattle.scheduler.proofs.why.Symbol as ask_def
-use Rattle.scheduler.proofs.why.Met as ask_thm
+use Rattle.scheduler.proofs.why.Met.{met}
 use Rattle.board.proofs.Arg.{word}
 use Rattle.board.proofs.Structs.{state, told}
-use Rattle.board.proofs.Look1.{Ask, Asked, looks_up}
-use Rattle.board.specs.contracts.why.Key.{name as #board·why}
+use Rattle.board.proofs.Look1.{Ask, looks_up}
 use Rattle.board.specs.contracts.why as f
-use Rattle.board.proofs.why.Statement as stated
+use Rattle.board.proofs.why.Statement.{statement}
 use Rattle.board.proofs.why.Code as code
 
 abbrev this : Ask state (word w8) told
 this = record { key = ask_def.name; Ok = λ s n. Handed s; Gives = λ s n r. r ≡ why_of s n }
 
-pub why_spec : {M : Type 1} → stated.statement M
-unfolding code.routine tables_of
-why_spec 𝓤 𝓛 𝓜 𝓡 =
-    entered 𝓤 𝓛.H (triple_of 𝓛 f.signature (f.spec 𝓛 𝓜.mem 𝓡.run))
-    (tables 𝓤 𝓛.H 𝓜 𝓡 code.env).C (tables 𝓤 𝓛.H 𝓜 𝓡 code.env).Λ #board·why code.function (code.unfolded 𝓤 𝓛.H 𝓜 𝓡)
-    (looks_up this 𝓛 (tables_of 𝓤 𝓛.H 𝓜 (tables 𝓤 𝓛.H 𝓜 𝓡 code.env))
-    (cited 𝓤 𝓛.H (Asked this 𝓛) 𝓜 𝓡 code.env ask_def.name ask_def.routine code.calls-scheduler::why (ask_thm.met 𝓤 𝓛 𝓜 𝓡)))
+pub why_spec : {M : Type 1} → statement M
+unfolding tables_of
+why_spec 𝓤 𝓛 𝓜 𝓡 wired =
+    let 𝓣 = tables 𝓤 𝓛.H 𝓜 𝓡 𝓡.env in
+    entered 𝓤 𝓛.H (triple_of 𝓛 f.signature (f.spec 𝓛 𝓜.mem 𝓡.returns)) 𝓣.C 𝓣.Λ f.Key.name code.function (code.unfolded 𝓤 𝓛.H 𝓜 𝓡 wired)
+    (looks_up this 𝓛 (tables_of 𝓤 𝓛.H 𝓜 𝓣) (met 𝓤 𝓛 𝓜 𝓡 (code.calls-scheduler::why 𝓡.env wired)))

@@ -2,7 +2,7 @@
 use mathlib.Core.Path.{◌≡◌, subst}
 use contract.Running.{tables, tables_of}
 use denote.Triple.Spec.{triple_of}
-use denote.Triple.Table.{entered, cited}
+use denote.Triple.Table.{entered}
 use Rattle.rules.specs.Tape.{TableWrote}
 use Rattle.tape.specs.declared.LineCopy.{LineCopy}
 use Rattle.tape.specs.Tables.{given_lines, copied}
@@ -10,12 +10,11 @@ use Rattle.tape.proofs.Copying.{copy_wrote}
 use Rattle.tape.proofs.write_copy.Symbol as put_def
 use Rattle.tape.proofs.write_copy.Met as put_thm
 use Rattle.board.proofs.Structs.{line, line_copy, written}
-use Rattle.board.proofs.Relay.{Relay, Copy, Put, relays}
+use Rattle.board.proofs.Relay.{Relay, relays}
 use Rattle.board.proofs.copy_lines.Symbol as copy_def
 use Rattle.board.proofs.copy_lines.Met as copy_thm
-use Rattle.board.specs.contracts.write_table.Key.{name as #board·write-table}
 use Rattle.board.specs.contracts.write_table as f
-use Rattle.board.proofs.write_table.Statement as stated
+use Rattle.board.proofs.write_table.Statement.{statement}
 use Rattle.board.proofs.write_table.Code as code
 
 abbrev this : Relay line line_copy written
@@ -28,11 +27,9 @@ this = record {
   says_so = λ ys c old r new e w. copy_wrote ys old r new (subst (λ (t : LineCopy). TableWrote (given_lines t.lines t.count) old r new) e w);
 }
 
-pub write_table_spec : {M : Type 1} → stated.statement M
-unfolding code.routine tables_of
-write_table_spec 𝓤 𝓛 𝓜 𝓡 =
-    entered 𝓤 𝓛.H (triple_of 𝓛 f.signature (f.spec 𝓛 𝓜.mem 𝓡.run))
-    (tables 𝓤 𝓛.H 𝓜 𝓡 code.env).C (tables 𝓤 𝓛.H 𝓜 𝓡 code.env).Λ #board·write-table code.function (code.unfolded 𝓤 𝓛.H 𝓜 𝓡)
-    (relays this 𝓛 (tables_of 𝓤 𝓛.H 𝓜 (tables 𝓤 𝓛.H 𝓜 𝓡 code.env))
-    (cited 𝓤 𝓛.H (Copy this 𝓛) 𝓜 𝓡 code.env copy_def.name copy_def.routine code.calls-board::copy-lines (copy_thm.met 𝓤 𝓛 𝓜 𝓡))
-    (cited 𝓤 𝓛.H (Put this 𝓛) 𝓜 𝓡 code.env put_def.name put_def.routine code.calls-tape::write-copy (put_thm.met 𝓤 𝓛 𝓜 𝓡)))
+pub write_table_spec : {M : Type 1} → statement M
+unfolding tables_of
+write_table_spec 𝓤 𝓛 𝓜 𝓡 wired =
+    let 𝓣 = tables 𝓤 𝓛.H 𝓜 𝓡 𝓡.env in
+    entered 𝓤 𝓛.H (triple_of 𝓛 f.signature (f.spec 𝓛 𝓜.mem 𝓡.returns)) 𝓣.C 𝓣.Λ f.Key.name code.function (code.unfolded 𝓤 𝓛.H 𝓜 𝓡 wired)
+    (relays this 𝓛 (tables_of 𝓤 𝓛.H 𝓜 𝓣) (copy_thm.met 𝓤 𝓛 𝓜 𝓡 (code.calls-board::copy_lines 𝓡.env wired)) (put_thm.met 𝓤 𝓛 𝓜 𝓡 (code.calls-tape::write_copy 𝓡.env wired)))

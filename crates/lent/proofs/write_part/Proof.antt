@@ -3,16 +3,15 @@ use mathlib.Core.Path.{refl}
 use lib.Dec.{lit<}
 use contract.Running.{tables, tables_of}
 use denote.Triple.Spec.{triple_of}
-use denote.Triple.Table.{entered, cited}
+use denote.Triple.Table.{entered}
 use Rattle.rules.specs.Tape.{TableWrote}
 use Rattle.board.proofs.Structs.{line, written}
 use Rattle.lent.proofs.LendPart.{Lines}
-use Rattle.lent.proofs.LendWith.{Call, Board, lend_with}
+use Rattle.lent.proofs.LendWith.{Call, lend_with}
 use Rattle.board.proofs.write_table.Symbol as board_def
-use Rattle.board.proofs.write_table.Met as board_thm
-use Rattle.lent.specs.contracts.write_part.Key.{name as #lent·write-part}
+use Rattle.board.proofs.write_table.Met.{met}
 use Rattle.lent.specs.contracts.write_part as f
-use Rattle.lent.proofs.write_part.Statement as stated
+use Rattle.lent.proofs.write_part.Statement.{statement}
 use Rattle.lent.proofs.write_part.Code as code
 
 abbrev lines : Lines line 255
@@ -21,10 +20,9 @@ lines = record { room = (lit< tt, lit< tt); last = λ xs. tt; silent = λ xs f. 
 abbrev this : Call line written
 this = record { key = board_def.name; Says = λ xs old r new. TableWrote (record { lines = xs }) old r new }
 
-pub write_part_spec : {M : Type 1} → stated.statement M
-unfolding code.routine tables_of
-write_part_spec 𝓤 𝓛 𝓜 𝓡 =
-    entered 𝓤 𝓛.H (triple_of 𝓛 f.signature (f.spec 𝓛 𝓜.mem 𝓡.run))
-    (tables 𝓤 𝓛.H 𝓜 𝓡 code.env).C (tables 𝓤 𝓛.H 𝓜 𝓡 code.env).Λ #lent·write-part code.function (code.unfolded 𝓤 𝓛.H 𝓜 𝓡)
-    (lend_with lines this 𝓛 (tables_of 𝓤 𝓛.H 𝓜 (tables 𝓤 𝓛.H 𝓜 𝓡 code.env))
-    (cited 𝓤 𝓛.H (Board lines this 𝓛) 𝓜 𝓡 code.env board_def.name board_def.routine code.calls-board::write-table (board_thm.met 𝓤 𝓛 𝓜 𝓡)))
+pub write_part_spec : {M : Type 1} → statement M
+unfolding tables_of
+write_part_spec 𝓤 𝓛 𝓜 𝓡 wired =
+    let 𝓣 = tables 𝓤 𝓛.H 𝓜 𝓡 𝓡.env in
+    entered 𝓤 𝓛.H (triple_of 𝓛 f.signature (f.spec 𝓛 𝓜.mem 𝓡.returns)) 𝓣.C 𝓣.Λ f.Key.name code.function (code.unfolded 𝓤 𝓛.H 𝓜 𝓡 wired)
+    (lend_with lines this 𝓛 (tables_of 𝓤 𝓛.H 𝓜 𝓣) (met 𝓤 𝓛 𝓜 𝓡 (code.calls-board::write_table 𝓡.env wired)))

@@ -1,0 +1,5 @@
+-- `head::stepped_for` meets its contract. Assumes nothing.
+use Rattle.head.proofs.stepped_for.Goals as goal
+
+pub returns : goal.returns
+returns c = rw (c.placed_with.ensures, c.answer_for.ensures)

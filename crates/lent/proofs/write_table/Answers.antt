@@ -1,0 +1,32 @@
+-- `lent::write_table` meets its contract. Assumes nothing.
+use mathlib.Core.Path.{◌≡◌, sym, subst}
+use Prim.Native.Nat.{ℕ, ◌≤◌, ◌<◌}
+use mathlib.Core.List.{List}
+use lib.ListN.{length, take, replicate}
+use native.Mathlib.Omega.{arith}
+use Rattle.rules.specs.declared.Line.{Line}
+use Rattle.rules.specs.declared.Written.{Written}
+use Rattle.rules.specs.Table.{Table, no_line}
+use Rattle.rules.specs.Tape.{bad_table, table_bytes, TableWrote}
+use Rattle.tape.specs.Tables.{given_lines}
+use Rattle.tape.proofs.Copying.{lines_refused, refused_alike}
+use Rattle.tape.proofs.Sizes.{given_is, given_many}
+use Rattle.lent.proofs.write_table.Goals as goal
+
+-- up to 255 lines are all lent
+part_wrote : (lines : List Line) (count : ℕ) (old : List ℕ) (r : Written) (new : List ℕ) → length lines ≡ 255 → count ≤ 255 → TableWrote (record { lines = take count lines }) old r new → TableWrote (given_lines lines count) old r new
+part_wrote lines count old r new held few = subst (λ (T : Table). TableWrote T old r new) (sym (given_is lines count held few))
+
+-- more are refused as any 256 are
+more_wrote : (lines : List Line) (count : ℕ) (old : List ℕ) (r : Written) (new : List ℕ) → length lines ≡ 255 → 255 < count → TableWrote (record { lines = replicate 256 no_line }) old r new → TableWrote (given_lines lines count) old r new
+more_wrote lines count old r new held many =
+    refused_alike (bad_table (record { lines = replicate 256 no_line })) (bad_table (given_lines lines count)) (table_bytes (record { lines = replicate 256 no_line })) (table_bytes (given_lines lines count)) old r new
+    (lines_refused (replicate 256 no_line) (omega arith)) (given_many lines count held many)
+
+pub returns-then-count-le-MOST_LINES : goal.returns-then-count-le-MOST_LINES
+returns-then-count-le-MOST_LINES c =
+    part_wrote c.args.lines c.args.count _ _ _ (omega (arith, c.well_formed)) c.if-count-le-MOST_LINES.true c.write_part.ensures
+
+pub returns : goal.returns
+returns c =
+    more_wrote c.args.lines c.args.count _ _ _ (omega (arith, c.well_formed)) (omega arith) c.write_more.ensures

@@ -1,0 +1,13 @@
+use Prim.Native.Nat.{◌-◌}
+use mathlib.Core.Path.{◌≡◌}
+use lib.ListN.{length}
+use Rattle.scheduler.specs.State.{Handed}
+use Rattle.transcript.specs.Pieces.{ran_of}
+use Rattle.transcript.proofs.run_out.Given as goal
+
+-- what is left to run from here is what was left from the start
+abbrev pub invariant-loop-call : goal.invariant-loop-call
+invariant-loop-call l = Handed l.at.state × (ran_of l.tape l.at ≡ ran_of l.tape l.initial.at)
+
+abbrev pub decreases-loop-call : goal.decreases-loop-call
+decreases-loop-call l = length l.tape - l.at.at
