@@ -1,4 +1,4 @@
-/* The scheduler of one recorder head, for C on x86-64: crate `head`, built by `rt staticlib head`.
+/* The scheduler of one recorder head, for C on x86-64: crate `head`, built by `rt lib` in its folder.
  *
  * In this order:
  *   head_check        once, with the task table. Number 0: the state that it gives is handed out.

@@ -75,7 +75,7 @@ function searches(group, title, sizes, n, i, k, at, size, side, line, under) {
 }
 
 END {
-    print "Instructions of x86-64, counted under qemu64 (SSE2): the proved crates (ours), the baseline in C, and the ratio."
+    print "Instructions of x86-64, counted under Nehalem (x86-64-v2): the proved crates (ours), the baseline in C, and the ratio."
     print "Pending jobs: after an activate, otherwise before the call."
     table("value", "a call by value", "pending ", "1 8 32")
     table("place", "a call for C, in place", "pending ", "1 8 32")
