@@ -10,7 +10,7 @@ use lib.ListN.{length, get_or, take, drop}
 use Rattle.rules.specs.declared.Job.{Job}
 use Rattle.rules.specs.Words.{only}
 use Rattle.jobs.specs.declared.JobList.{JobList}
-use Rattle.jobs.specs.declared.Lead.TheVariants.{NoJob, Leads}
+use Rattle.std.specs.Prelude.{Some, None}
 use Rattle.jobs.specs.Listed.{blank_job, view, goes_before, is_first_in, insert_due, is_of, pending_of, first_in, lead_of, lead_with}
 
 -- ---- the first job
@@ -49,7 +49,7 @@ pending_none t = refl
 
 -- ---- the first job of a task
 
-pub own_here : (t : ℕ) (x : Job) (xs : List Job) → t ≡ x.task → lead_of (only (is_of t) (x ∷ xs)) ≡ Leads x
+pub own_here : (t : ℕ) (x : Job) (xs : List Job) → t ≡ x.task → lead_of (only (is_of t) (x ∷ xs)) ≡ Some x
 own_here t x xs h = rw (eq-eqb t x.task h) refl
 
 pub own_next : (t : ℕ) (x : Job) (xs : List Job) → (t ≡ x.task → ⊥) → lead_of (only (is_of t) (x ∷ xs)) ≡ lead_of (only (is_of t) xs)
@@ -57,20 +57,20 @@ own_next t x xs h = rw (ne_eqb t x.task h) refl
 
 -- ---- the job that leads
 
-pub lead_next : (n : ℕ) (xs : List Job) → 1 < n → 1 < length xs → Leads (get_or xs 1 blank_job) ≡ lead_of (drop 1 (take n xs))
+pub lead_next : (n : ℕ) (xs : List Job) → 1 < n → 1 < length xs → Some (get_or xs 1 blank_job) ≡ lead_of (drop 1 (take n xs))
 lead_next zero xs h m = absurd (omega (arith, h))
 lead_next (suc zero) xs h m = absurd (omega (arith, h))
 lead_next (suc (suc n)) [] h m = absurd (omega (arith, m))
 lead_next (suc (suc n)) (x ∷ []) h m = absurd (omega (arith, m))
 lead_next (suc (suc n)) (x ∷ y ∷ xs) h m = refl
 
-pub lead_gone : (n : ℕ) (xs : List Job) → n ≤ 1 → NoJob ≡ lead_of (drop 1 (take n xs))
+pub lead_gone : (n : ℕ) (xs : List Job) → n ≤ 1 → None ≡ lead_of (drop 1 (take n xs))
 lead_gone zero xs h = refl
 lead_gone (suc zero) [] h = refl
 lead_gone (suc zero) (x ∷ xs) h = refl
 lead_gone (suc (suc n)) xs h = absurd (omega (arith, h))
 
-pub lead_first : (n : ℕ) (xs : List Job) → (n ≡ 0 → ⊥) → 0 < length xs → Leads (get_or xs 0 blank_job) ≡ lead_of (take n xs)
+pub lead_first : (n : ℕ) (xs : List Job) → (n ≡ 0 → ⊥) → 0 < length xs → Some (get_or xs 0 blank_job) ≡ lead_of (take n xs)
 lead_first zero xs h m = absurd (h refl)
 lead_first (suc n) [] h m = absurd (omega (arith, m))
 lead_first (suc n) (x ∷ xs) h m = refl
@@ -82,6 +82,6 @@ lead_with_lem false j xs = refl
 lead_with_lem true j [] = refl
 lead_with_lem true j (x ∷ xs) = go (goes_before j x)
   where
-    go : (b : Bool) → cond b (Leads j) (Leads x) ≡ lead_of (cond b (j ∷ x ∷ xs) (x ∷ insert_due j xs))
+    go : (b : Bool) → cond b (Some j) (Some x) ≡ lead_of (cond b (j ∷ x ∷ xs) (x ∷ insert_due j xs))
     go true = refl
     go false = refl

@@ -1,5 +1,5 @@
 -- Document 01, "Ticks and jobs": the list of pending jobs as a plain list. `view` reads it off a JobList, `pack` lays it out in one. Assumes nothing.
-use Rattle.std.specs.Prelude.{ℕ, ◌-◌, ◌≤◌, ◌≡◌, Bool, true, false, not, ◌&&◌, cond, List, [], ◌∷◌, ◌++◌, map, length, take, replicate, ltb, eqb}
+use Rattle.std.specs.Prelude.{ℕ, ◌-◌, ◌≤◌, ◌≡◌, Bool, true, false, not, ◌&&◌, cond, List, [], ◌∷◌, ◌++◌, map, length, take, replicate, ltb, eqb, Option, Some, None}
 use Rattle.rules.specs.declared.Phase.TheVariants.{Delayed, Released}
 use Rattle.rules.specs.declared.Tick.{Tick}
 use Rattle.rules.specs.declared.Job.{Job}
@@ -8,8 +8,6 @@ use Rattle.rules.specs.Words.{places, count_by, only, insert_by, Pairs}
 use Rattle.rules.specs.Late.{is_past}
 use Rattle.rules.specs.Layer.{in_places}
 use Rattle.jobs.specs.declared.JobList.{JobList}
-use Rattle.jobs.specs.declared.Lead.{Lead}
-use Rattle.jobs.specs.declared.Lead.TheVariants.{NoJob, Leads}
 
 abbrev pub blank_job : Job
 blank_job = record { due = record { 0 = 0 }; task = 0; phase = Delayed }
@@ -78,15 +76,15 @@ first_in [] = blank_job
 first_in (x ∷ xs) = x
 
 -- the job that leads
-abbrev pub lead_of : List Job → Lead
-lead_of [] = NoJob
-lead_of (x ∷ xs) = Leads x
+abbrev pub lead_of : List Job → Option Job
+lead_of [] = None
+lead_of (x ∷ xs) = Some x
 
 -- and the one that leads where a new job enters
-abbrev pub lead_with : Bool → Job → Lead → Lead
+abbrev pub lead_with : Bool → Job → Option Job → Option Job
 lead_with false j x = x
-lead_with true j NoJob = Leads j
-lead_with true j (Leads x) = cond (goes_before j x) (Leads j) (Leads x)
+lead_with true j None = Some j
+lead_with true j (Some x) = cond (goes_before j x) (Some j) (Some x)
 
 -- ---- newly late jobs
 

@@ -15,13 +15,6 @@ pub struct JobList {
     pub count: usize,
 }
 
-// Which job leads a list: none, or the first.
-#[derive(Clone, Copy)]
-pub enum Lead {
-    NoJob,
-    Leads(Job),
-}
-
 fn blank() -> Job
     ensures { result ≡ blank_job }
 {
@@ -211,38 +204,38 @@ pub fn replace_first(list: JobList, job: Job, accepted: bool) -> JobList
 // ---- what is asked of a list
 
 // The job that leads; where the first job leaves, the one behind it.
-pub fn front(list: JobList, leaves: bool) -> Lead
+pub fn front(list: JobList, leaves: bool) -> Option<Job>
     ensures { result ≡ lead_of (cond leaves (drop 1 (view list)) (view list)) }
 {
     let n = list.count;
     if leaves {
         if n <= 1 {
-            return Lead::NoJob;
+            return None;
         }
         let job = list.jobs[1];
-        return Lead::Leads(job);
+        return Some(job);
     }
     if n == 0 {
-        return Lead::NoJob;
+        return None;
     }
     let job = list.jobs[0];
-    Lead::Leads(job)
+    Some(job)
 }
 
 // The job that leads where a new one enters.
-pub fn front_with(lead: Lead, job: Job, enters: bool) -> Lead
+pub fn front_with(lead: Option<Job>, job: Job, enters: bool) -> Option<Job>
     ensures { result ≡ lead_with enters job lead }
 {
     if !enters {
         return lead;
     }
     match lead {
-        Lead::NoJob => Lead::Leads(job),
-        Lead::Leads(other) => {
+        None => Some(job),
+        Some(other) => {
             if goes_before(job, other) {
-                return Lead::Leads(job);
+                return Some(job);
             }
-            Lead::Leads(other)
+            Some(other)
         }
     }
 }
@@ -277,7 +270,7 @@ pub fn pending_from(list: JobList, start: usize, task: u8) -> usize
 }
 
 // The first job of a task.
-pub fn first_of(list: JobList, task: u8) -> Lead
+pub fn first_of(list: JobList, task: u8) -> Option<Job>
     requires { Shaped list }
     ensures { result ≡ lead_of (only (is_of task) (view list)) }
 {
@@ -286,11 +279,11 @@ pub fn first_of(list: JobList, task: u8) -> Lead
     while i < n {
         let job = list.jobs[i];
         if job.task == task {
-            return Lead::Leads(job);
+            return Some(job);
         }
         i += 1;
     }
-    Lead::NoJob
+    None
 }
 
 // The first job; a blank one where there is none.
