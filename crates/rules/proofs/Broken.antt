@@ -8,7 +8,8 @@ use borrow.Author.Tests.{le-ltb, eq-eqb, ne_eqb}
 use Rattle.rules.specs.declared.Tick.{Tick}
 use Rattle.rules.specs.declared.Phase.TheVariants.{Released}
 use Rattle.rules.specs.declared.Call.TheVariants.{Activate}
-use Rattle.rules.specs.declared.Choice.TheVariants.{Runs}
+use Rattle.rules.specs.declared.Running.{Running}
+use Rattle.rules.specs.Answers.{runs_as}
 use Rattle.rules.specs.Words.{unless}
 use Rattle.rules.specs.Table.{Table, line_of, InRange, plus, deadline_of, priority_of}
 use Rattle.rules.specs.Jobs.{accepted, new_job, Before, before}
@@ -100,20 +101,22 @@ module _ (T : Table) (i j : ℕ) (h : Broken T i j) (t : Tick) (small : t.0 ≤ 
       λ k. first k ∷ second k ∷ []
 
   -- the kernel goes on with the longer, which was released first and is not lower
-  kernel_runs : choice T (run T fresh (Activate t j ∷ Activate t i ∷ [])) ≡ Runs j (plus t (deadline_of T j))
+  kernel_runs : choice T (run T fresh (Activate t j ∷ Activate t i ∷ [])) ≡ runs_as j (plus t (deadline_of T j))
   unfolding board_2
   kernel_runs =
       ap (λ z. choice T (next T z (Activate t i))) to_board_1 ∙ ap (choice T) to_board_2
       ∙ simp (le-ltb (priority_of T j) (priority_of T i) h.not_higher, ne_eqb j i (λ e. differ (sym e)), eq-eqb j j refl)
 
-  plain_runs : plain_choice T (plain_run T start (Activate t j ∷ Activate t i ∷ [])).pending ≡ Runs i (plus t (deadline_of T i))
+  plain_runs : plain_choice T (plain_run T start (Activate t j ∷ Activate t i ∷ [])).pending ≡ runs_as i (plus t (deadline_of T i))
   unfolding plain_2
   plain_runs =
       ap (λ z. plain_choice T (plain_next T z (Activate t i)).pending) to_plain_1 ∙ ap (λ z. plain_choice T z.pending) to_plain_2
       ∙ simp goes_before
 
-  runs_apart : Runs i (plus t (deadline_of T i)) ≡ Runs j (plus t (deadline_of T j)) → ⊥
-  runs_apart e = differ cc
+  runs_apart : runs_as i (plus t (deadline_of T i)) ≡ runs_as j (plus t (deadline_of T j)) → ⊥
+  runs_apart e =
+      let same : ◌≡◌ {A = Running} (record { task = i; due = plus t (deadline_of T i) }) (record { task = j; due = plus t (deadline_of T j) }) = cc in
+      differ (ap (λ (r : Running). r.task) same)
 
 pub demand_3_broken : Demand3Broken
 demand_3_broken T i j h = (record { accepted = both_accepted T i j h t small o; kernel = k; plain = p; apart = λ e. runs_apart T i j h t small o (sym p ∙ sym e ∙ k) }, broken_is_5 T i j h)
@@ -127,8 +130,8 @@ demand_3_broken T i j h = (record { accepted = both_accepted T i j h t small o; 
     o : Before T (accepted T t i) (accepted T t j)
     o = part_order T i j h.passes h.shorter
 
-    k : choice T (run T fresh (Activate t j ∷ Activate t i ∷ [])) ≡ Runs j (plus t (deadline_of T j))
+    k : choice T (run T fresh (Activate t j ∷ Activate t i ∷ [])) ≡ runs_as j (plus t (deadline_of T j))
     k = kernel_runs T i j h t small o
 
-    p : plain_choice T (plain_run T start (Activate t j ∷ Activate t i ∷ [])).pending ≡ Runs i (plus t (deadline_of T i))
+    p : plain_choice T (plain_run T start (Activate t j ∷ Activate t i ∷ [])).pending ≡ runs_as i (plus t (deadline_of T i))
     p = plain_runs T i j h t small o

@@ -8,7 +8,7 @@ use lib.Dec.{eqb}
 use Rattle.rules.specs.declared.Tick.{Tick}
 use Rattle.rules.specs.declared.Call.{Call}
 use Rattle.rules.specs.declared.Call.TheVariants.{Wait, Activate, Terminate, Chain}
-use Rattle.rules.specs.declared.Choice.TheVariants.{Idle}
+use Rattle.std.specs.Prelude.{None}
 use Rattle.rules.specs.Words.{unless, count_by, count, insert_by}
 use Rattle.rules.specs.Table.{Table, Keeps, priority_of}
 use Rattle.rules.specs.Jobs.{Job, Pending, accepted, bare, before}
@@ -131,7 +131,7 @@ run_both T keeps b p h (e ∷ es) = run_both T keeps (next T b e) (plain_next T 
 pub fresh_both : (T : Table) → Both T fresh start
 fresh_both T = record { good = record { sound = tt; lined = record { ordered = tt; first = tt; queue = refl } }; related = record { last = refl; list = refl } }
 
-idle_first : (l : List Job) → (shown (first_of l) ≡ Idle) ↔ (l ≡ [])
+idle_first : (l : List Job) → (shown (first_of l) ≡ None) ↔ (l ≡ [])
 idle_first [] = (λ e. refl, λ e. refl)
 idle_first (j ∷ l) = (λ e. cc, λ e. cc)
 

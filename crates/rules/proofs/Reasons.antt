@@ -9,7 +9,10 @@ use native.Mathlib.Omega.{arith}
 use borrow.Author.Tests.{ltb-true, ltb-false, lt-ltb, le-ltb, leb-true, leb-false, le-leb, lt-leb, eqb-true, eqb-false, eq-eqb, ne_eqb}
 use Rattle.rules.specs.declared.Reason.{Reason}
 use Rattle.rules.specs.declared.Reason.TheVariants.{NonePending, ItRuns, Earlier, ThereFirst}
-use Rattle.rules.specs.declared.Why.TheVariants.{Because, Refused}
+use Rattle.std.specs.Prelude.{Ok, Err}
+use Rattle.rules.specs.declared.CallRefusal.{CallRefusal}
+use Rattle.rules.specs.declared.CallRefusal.TheVariants.{NoTask}
+use Rattle.rules.specs.Answers.{call_number}
 use Rattle.rules.specs.Words.{◌if◌else◌, All}
 use Rattle.rules.specs.Table.{Table, size}
 use Rattle.rules.specs.Jobs.{Job, bare, key_at}
@@ -181,11 +184,11 @@ module _ (T : Table) (b : Board) (n : ℕ) (o : Ordered T (Higher T) b.jobs) (ru
 
 -- ---- the answer
 
-answers_3 : (T : Table) (b : Board) (n : ℕ) → size T ≤ n → why T b n ≡ Refused 3
+answers_3 : (T : Table) (b : Board) (n : ℕ) → size T ≤ n → why T b n ≡ Err NoTask
 unfolding why ◌if◌else◌
 answers_3 T b n h = rw (le-leb (size T) n h) refl
 
-pub answers_reason : (T : Table) (b : Board) (n : ℕ) → n < size T → why T b n ≡ Because (reason T n (asked n b.jobs) (running_job T b))
+pub answers_reason : (T : Table) (b : Board) (n : ℕ) → n < size T → why T b n ≡ Ok (reason T n (asked n b.jobs) (running_job T b))
 unfolding why ◌if◌else◌
 answers_reason T b n h = rw (lt-leb (size T) n h) refl
 
@@ -207,10 +210,10 @@ why_refused T b n = go (leb (size T) n) refl
     go : (t : Bool) → leb (size T) n ≡ t → WhyRefuses T b n
     go true e =
         let h = leb-true (size T) n e in
-        record { three = ((λ z. h), answers_3 T b n); no_other = λ k z. let q : Refused 3 ≡ Refused k = sym (answers_3 T b n h) ∙ z in let y : 3 ≡ k = cc in sym y }
+        record { three = ((λ z. h), answers_3 T b n); no_other = λ k z. let q : Err NoTask ≡ Err k = sym (answers_3 T b n h) ∙ z in let y : NoTask ≡ k = cc in sym (ap call_number y) }
     go false e =
         let h = answers_reason T b n (leb-false (size T) n e) in
         record {
-          three = ((λ z. let q : Because (reason T n (asked n b.jobs) (running_job T b)) ≡ Refused 3 = sym h ∙ z in let y : ◌≡◌ {A = ℕ} 0 1 = cc in absurd (omega arith)), answers_3 T b n);
-          no_other = λ k z. let q : Because (reason T n (asked n b.jobs) (running_job T b)) ≡ Refused k = sym h ∙ z in let y : ◌≡◌ {A = ℕ} 0 1 = cc in absurd (omega arith);
+          three = ((λ z. let q : Ok (reason T n (asked n b.jobs) (running_job T b)) ≡ Err NoTask = sym h ∙ z in let y : ◌≡◌ {A = ℕ} 0 1 = cc in absurd (omega arith)), answers_3 T b n);
+          no_other = λ k z. let q : Ok (reason T n (asked n b.jobs) (running_job T b)) ≡ Err k = sym h ∙ z in let y : ◌≡◌ {A = ℕ} 0 1 = cc in absurd (omega arith);
         }

@@ -5,8 +5,8 @@ use mathlib.Core.Bool.{Bool, true, false, cond}
 use mathlib.Core.List.{List, [], ◌∷◌}
 use mathlib.Core.Option.{Option, some, none}
 use lib.ListN.{length}
-use Rattle.rules.specs.declared.Choice.{Choice}
-use Rattle.rules.specs.declared.Choice.TheVariants.{Idle, Runs}
+use Rattle.std.specs.Prelude.{None}
+use Rattle.rules.specs.Answers.{Choice, runs_as}
 use Rattle.rules.specs.Words.{count_by, insert_by}
 use Rattle.rules.specs.Table.{Table}
 use Rattle.rules.specs.Jobs.{Pending, before}
@@ -30,8 +30,8 @@ sorted_pick T j (k ∷ p) = ap (insert_by (before T) j) (sorted_pick T k p) ∙ 
 
 -- what runs of a list in order, and its task
 abbrev pub runs_of : List Pending → Choice
-runs_of [] = Idle
-runs_of (j ∷ p) = Runs j.task j.due
+runs_of [] = None
+runs_of (j ∷ p) = runs_as j.task j.due
 
 abbrev pub task_of : List Pending → Option ℕ
 task_of [] = none

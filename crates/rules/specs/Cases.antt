@@ -1,5 +1,5 @@
 -- Document 01, "The program and one whole run" and "Errors a builder could fall into": the printed run, cases a to l (j as Q-2 has it), and other single rows, as one statement; and those of Q-1 and Q-3. Assumes nothing.
-use Rattle.std.specs.Prelude.{ℕ, ◌+◌, ◌*◌, ◌/◌, ◌≡◌, true, false, List, [], ◌∷◌, ◌++◌, take, replicate, ltb}
+use Rattle.std.specs.Prelude.{ℕ, ◌+◌, ◌*◌, ◌/◌, ◌≡◌, true, false, List, [], ◌∷◌, ◌++◌, take, replicate, ltb, None, Ok, Err}
 use Prim.Native.String.{String}
 use Rattle.std.proofs.Math.Option.{some}
 use Rattle.rules.specs.declared.Tick.{Tick}
@@ -11,8 +11,6 @@ use Rattle.rules.specs.declared.Call.{Call}
 use Rattle.rules.specs.declared.Call.TheVariants.{Wait, Activate, Terminate, Chain}
 use Rattle.rules.specs.declared.KernelCall.{KernelCall}
 use Rattle.rules.specs.declared.KernelCall.TheVariants.{NoCall, ActivateTask, ChainTask, TerminateTask}
-use Rattle.rules.specs.declared.Choice.{Choice}
-use Rattle.rules.specs.declared.Choice.TheVariants.{Idle, Runs}
 use Rattle.rules.specs.declared.Answer.{Answer}
 use Rattle.rules.specs.declared.Tally.{Tally}
 use Rattle.rules.specs.declared.NumberRead.TheVariants.{Value, Refused}
@@ -23,14 +21,14 @@ use Rattle.rules.specs.Number.{bytes_of, number_at}
 use Rattle.rules.specs.Tape.{lines_bytes, tape_of, record_at, read_tape, whole, written, stored}
 use Rattle.rules.specs.Table.{Table, deadline_of, priority_of, greatest, verdict, check}
 use Rattle.rules.specs.Jobs.{Job, Pending, before}
+use Rattle.rules.specs.declared.CallRefusal.TheVariants.{NoTask}
+use Rattle.rules.specs.Answers.{Choice, runs_as}
 use Rattle.rules.specs.Kernel.{dispatched, kernel}
 use Rattle.rules.specs.Layer.{moved, fresh, result, choice, answer, in_places}
 use Rattle.rules.specs.Plain.{start, plain_result, plain_run, plain_choice}
 use Rattle.rules.specs.Run.{run, answers, fresh_head, head_run}
 use Rattle.rules.specs.Print.{ascii, ended, transcript}
 use Rattle.rules.specs.declared.Reason.TheVariants.{NonePending, ItRuns, Earlier, ThereFirst}
-use Rattle.rules.specs.declared.Why.{Why}
-use Rattle.rules.specs.declared.Why.TheVariants.{Because}
 use Rattle.rules.specs.Why.{why}
 use Rattle.rules.specs.WhyPrint.{why_transcript}
 use Rattle.rules.specs.Search.{from_front, from_back, reads_from_back}
@@ -114,15 +112,15 @@ pub record Cases : Type 0 where
   pub printed_table : check table_p ≡ verdict 0 NoneNamed
   pub printed_run :
       answers table_p fresh printed
-      ≡ says 0 (Runs 0 (at 3)) (ActivateTask 0) []
-      ∷ says 0 (Runs 0 (at 3)) NoCall []
-      ∷ says 0 (Runs 0 (at 3)) NoCall []
-      ∷ says 0 (Runs 2 (at 5)) (ChainTask 2) []
-      ∷ says 0 (Runs 2 (at 5)) NoCall []
-      ∷ says 0 (Runs 1 (at 5)) (ChainTask 1) []
-      ∷ says 0 (Runs 0 (at 6)) (ChainTask 0) []
-      ∷ says 0 (Runs 0 (at 6)) NoCall (0 ∷ [])
-      ∷ says 0 Idle TerminateTask []
+      ≡ says 0 (runs_as 0 (at 3)) (ActivateTask 0) []
+      ∷ says 0 (runs_as 0 (at 3)) NoCall []
+      ∷ says 0 (runs_as 0 (at 3)) NoCall []
+      ∷ says 0 (runs_as 2 (at 5)) (ChainTask 2) []
+      ∷ says 0 (runs_as 2 (at 5)) NoCall []
+      ∷ says 0 (runs_as 1 (at 5)) (ChainTask 1) []
+      ∷ says 0 (runs_as 0 (at 6)) (ChainTask 0) []
+      ∷ says 0 (runs_as 0 (at 6)) NoCall (0 ∷ [])
+      ∷ says 0 None TerminateTask []
       ∷ []
   pub printed_print :
       transcript printed_tape
@@ -159,16 +157,16 @@ pub record Cases : Type 0 where
   -- cases a to l
   pub a_stays_delayed :
       (run table_p fresh up_to_tick3).jobs ≡ job 2 0 5 Released ∷ job 1 0 5 Delayed ∷ job 0 3 6 Delayed ∷ []
-  pub a_runs_on : choice table_p (run table_p fresh up_to_tick3) ≡ Runs 2 (at 5)
-  pub a_plain : plain_choice table_p (plain_run table_p start up_to_tick3).pending ≡ Runs 2 (at 5)
+  pub a_runs_on : choice table_p (run table_p fresh up_to_tick3) ≡ runs_as 2 (at 5)
+  pub a_plain : plain_choice table_p (plain_run table_p start up_to_tick3).pending ≡ runs_as 2 (at 5)
   pub b_no_second_start :
       answers table_p fresh (Activate (at 0) 1 ∷ Activate (at 1) 0 ∷ Terminate (at 2) ∷ [])
-      ≡ says 0 (Runs 1 (at 5)) (ActivateTask 1) [] ∷ says 0 (Runs 0 (at 4)) (ActivateTask 0) [] ∷ says 0 (Runs 1 (at 5)) TerminateTask [] ∷ []
+      ≡ says 0 (runs_as 1 (at 5)) (ActivateTask 1) [] ∷ says 0 (runs_as 0 (at 4)) (ActivateTask 0) [] ∷ says 0 (runs_as 1 (at 5)) TerminateTask [] ∷ []
   pub c_behind_its_equal : (run table_p fresh two_of_task0).jobs ≡ job 0 0 3 Released ∷ job 0 0 3 Delayed ∷ []
   pub d_accepted : check table_d ≡ verdict 0 NoneNamed
   pub d_own_deadlines :
       answers table_d fresh (Activate (at 21) 0 ∷ Activate (at 22) 1 ∷ [])
-      ≡ says 0 (Runs 0 (at 31)) (ActivateTask 0) [] ∷ says 0 (Runs 0 (at 31)) NoCall [] ∷ []
+      ≡ says 0 (runs_as 0 (at 31)) (ActivateTask 0) [] ∷ says 0 (runs_as 0 (at 31)) NoCall [] ∷ []
   pub d_second_waits :
       (run table_d fresh (Activate (at 21) 0 ∷ Activate (at 22) 1 ∷ [])).jobs ≡ job 0 21 31 Released ∷ job 1 22 34 Delayed ∷ []
   pub d_multiple_due : (multiple table_d (at 21) 0).due ≡ at 30
@@ -178,33 +176,33 @@ pub record Cases : Type 0 where
   pub d_multiple_not_run : dispatched (priority_of table_d) (kernel (some 0) (ActivateTask 1) (0 ∷ [])) ≡ some 0
   pub e_refused : check table_e ≡ verdict 5 (BothLines 0 1)
   pub e_print : transcript (0x02 ∷ 0x03 ∷ 0x01 ∷ 0x01 ∷ 0x05 ∷ 0x02 ∷ 0x01 ∷ 0x04 ∷ []) ≡ lines ("table 5 0 1" ∷ [])
-  pub e_kernel : choice table_e (run table_e fresh longer_first) ≡ Runs 1 (at 5)
-  pub e_plain : plain_choice table_e (plain_run table_e start longer_first).pending ≡ Runs 0 (at 3)
+  pub e_kernel : choice table_e (run table_e fresh longer_first) ≡ runs_as 1 (at 5)
+  pub e_plain : plain_choice table_e (plain_run table_e start longer_first).pending ≡ runs_as 0 (at 3)
   pub f_refused : check table_f ≡ verdict 5 (BothLines 0 1)
-  pub f_kernel : choice table_f (run table_f fresh longer_first) ≡ Runs 1 (at 5)
-  pub f_plain : plain_choice table_f (plain_run table_f start longer_first).pending ≡ Runs 0 (at 3)
+  pub f_kernel : choice table_f (run table_f fresh longer_first) ≡ runs_as 1 (at 5)
+  pub f_plain : plain_choice table_f (plain_run table_f start longer_first).pending ≡ runs_as 0 (at 3)
   pub g_accepted : check (table (line 5 2 1 ∷ line 5 2 1 ∷ [])) ≡ verdict 0 NoneNamed
-  pub h_runs : choice table_p (run table_p fresh two_of_task0) ≡ Runs 0 (at 3)
-  pub h_chain : answer table_p (run table_p fresh two_of_task0) (Chain (at 0) 0) ≡ says 0 (Runs 0 (at 3)) (ChainTask 0) []
+  pub h_runs : choice table_p (run table_p fresh two_of_task0) ≡ runs_as 0 (at 3)
+  pub h_chain : answer table_p (run table_p fresh two_of_task0) (Chain (at 0) 0) ≡ says 0 (runs_as 0 (at 3)) (ChainTask 0) []
   pub h_activate : result table_p (run table_p fresh two_of_task0) (Activate (at 0) 0) ≡ 4
   pub i_nothing_runs : result table_p fresh (Terminate (at 0)) ≡ 2
   pub i_accepted : result table_p fresh (Wait (at 5)) ≡ 0
   pub i_goes_back : result table_p (run table_p fresh (Wait (at 5) ∷ [])) (Terminate (at 4)) ≡ 8
   pub i_plain : plain_result table_p (plain_run table_p start (Wait (at 5) ∷ [])) (Terminate (at 4)) ≡ 8
   pub i_changes_nothing : run table_p fresh (Wait (at 5) ∷ Terminate (at 4) ∷ []) ≡ run table_p fresh (Wait (at 5) ∷ [])
-  pub j_on_time : answer table_p (run table_p fresh (Activate (at 3) 0 ∷ [])) (Terminate (at 5)) ≡ says 0 Idle TerminateTask []
-  pub j_late : answer table_p (run table_p fresh (Activate (at 3) 0 ∷ [])) (Terminate (at 6)) ≡ says 0 Idle TerminateTask (0 ∷ [])
+  pub j_on_time : answer table_p (run table_p fresh (Activate (at 3) 0 ∷ [])) (Terminate (at 5)) ≡ says 0 None TerminateTask []
+  pub j_late : answer table_p (run table_p fresh (Activate (at 3) 0 ∷ [])) (Terminate (at 6)) ≡ says 0 None TerminateTask (0 ∷ [])
   pub j_on_time_counts : take 1 (head_run table_p fresh_head (Activate (at 3) 0 ∷ Terminate (at 5) ∷ [])).tallies ≡ tally 0 1 2 ∷ []
   pub j_late_counts : take 1 (head_run table_p fresh_head (Activate (at 3) 0 ∷ Terminate (at 6) ∷ [])).tallies ≡ tally 1 1 3 ∷ []
   pub j_reported_once :
       answers table_p fresh (Activate (at 3) 0 ∷ Wait (at 5) ∷ Wait (at 6) ∷ Wait (at 6) ∷ Wait (at 7) ∷ [])
-      ≡ says 0 (Runs 0 (at 6)) (ActivateTask 0) []
-      ∷ says 0 (Runs 0 (at 6)) NoCall []
-      ∷ says 0 (Runs 0 (at 6)) NoCall (0 ∷ [])
-      ∷ says 0 (Runs 0 (at 6)) NoCall []
-      ∷ says 0 (Runs 0 (at 6)) NoCall []
+      ≡ says 0 (runs_as 0 (at 6)) (ActivateTask 0) []
+      ∷ says 0 (runs_as 0 (at 6)) NoCall []
+      ∷ says 0 (runs_as 0 (at 6)) NoCall (0 ∷ [])
+      ∷ says 0 (runs_as 0 (at 6)) NoCall []
+      ∷ says 0 (runs_as 0 (at 6)) NoCall []
       ∷ []
-  pub j_first_call_after : answer table_p (run table_p fresh (Activate (at 3) 0 ∷ Wait (at 5) ∷ [])) (Wait (at 7)) ≡ says 0 (Runs 0 (at 6)) NoCall (0 ∷ [])
+  pub j_first_call_after : answer table_p (run table_p fresh (Activate (at 3) 0 ∷ Wait (at 5) ∷ [])) (Wait (at 7)) ≡ says 0 (runs_as 0 (at 6)) NoCall (0 ∷ [])
   pub k_not_shortest : number_at (0x80 ∷ 0x00 ∷ []) 0 ≡ Refused 21
   pub k_cut_off : number_at (0x80 ∷ []) 0 ≡ Refused 20
   pub l_fits : check (table (line 3 2 16 ∷ line 5 1 16 ∷ [])) ≡ verdict 0 NoneNamed
@@ -240,15 +238,15 @@ pub record Cases : Type 0 where
   pub ten_at_32 : result table_over (run table_over fresh full) (Activate (at 0) 1) ≡ 10
   pub ten_after_4 : result table_over (run table_over fresh full) (Activate (at 0) 0) ≡ 4
   -- Q-1: at tick 3 of the printed run, and at its borders
-  pub why_earlier : why table_p (run table_p fresh up_to_tick3) 0 ≡ Because (Earlier 2 (at 5))
-  pub why_there_first : why table_p (run table_p fresh up_to_tick3) 1 ≡ Because (ThereFirst 2 (at 5))
-  pub why_it_runs : why table_p (run table_p fresh up_to_tick3) 2 ≡ Because ItRuns
-  pub why_no_line : why table_p (run table_p fresh up_to_tick3) 3 ≡ Why.Refused 3
-  pub why_byte_255 : why table_p fresh 255 ≡ Why.Refused 3
-  pub why_none_pending : why table_p fresh 0 ≡ Because NonePending
-  pub why_first_of_two : why table_p (run table_p fresh two_of_task0) 0 ≡ Because ItRuns
-  pub why_preempted : why table_p (run table_p fresh (Activate (at 0) 1 ∷ Activate (at 1) 0 ∷ [])) 1 ≡ Because (Earlier 0 (at 4))
-  pub why_late : why table_p (run table_p fresh (Activate (at 0) 0 ∷ Wait (at 9) ∷ Activate (at 9) 0 ∷ Activate (at 9) 1 ∷ [])) 1 ≡ Because (Earlier 0 (at 3))
+  pub why_earlier : why table_p (run table_p fresh up_to_tick3) 0 ≡ Ok (Earlier 2 (at 5))
+  pub why_there_first : why table_p (run table_p fresh up_to_tick3) 1 ≡ Ok (ThereFirst 2 (at 5))
+  pub why_it_runs : why table_p (run table_p fresh up_to_tick3) 2 ≡ Ok ItRuns
+  pub why_no_line : why table_p (run table_p fresh up_to_tick3) 3 ≡ Err NoTask
+  pub why_byte_255 : why table_p fresh 255 ≡ Err NoTask
+  pub why_none_pending : why table_p fresh 0 ≡ Ok NonePending
+  pub why_first_of_two : why table_p (run table_p fresh two_of_task0) 0 ≡ Ok ItRuns
+  pub why_preempted : why table_p (run table_p fresh (Activate (at 0) 1 ∷ Activate (at 1) 0 ∷ [])) 1 ≡ Ok (Earlier 0 (at 4))
+  pub why_late : why table_p (run table_p fresh (Activate (at 0) 0 ∷ Wait (at 9) ∷ Activate (at 9) 0 ∷ Activate (at 9) 1 ∷ [])) 1 ≡ Ok (Earlier 0 (at 3))
   pub why_print :
       why_transcript (take 24 printed_tape)
       ≡ lines

@@ -1,5 +1,5 @@
 -- Document 01, "Ticks and jobs": the layer that delays activations, over the kernel. Assumes nothing.
-use Rattle.std.specs.Prelude.{ℕ, ◌-◌, Bool, true, false, cond, ◌&&◌, List, [], ◌∷◌, ◌++◌, map, length, replicate, eqb}
+use Rattle.std.specs.Prelude.{ℕ, ◌-◌, Bool, true, false, cond, ◌&&◌, List, [], ◌∷◌, ◌++◌, map, length, replicate, eqb, None}
 use Rattle.std.proofs.Math.Option.{Option, some, none}
 use Rattle.rules.specs.declared.Tick.{Tick}
 use Rattle.rules.specs.declared.Phase.{Phase}
@@ -8,13 +8,12 @@ use Rattle.rules.specs.declared.Call.{Call}
 use Rattle.rules.specs.declared.Call.TheVariants.{Wait, Activate, Terminate, Chain}
 use Rattle.rules.specs.declared.KernelCall.{KernelCall}
 use Rattle.rules.specs.declared.KernelCall.TheVariants.{NoCall, ActivateTask, ChainTask, TerminateTask}
-use Rattle.rules.specs.declared.Choice.{Choice}
-use Rattle.rules.specs.declared.Choice.TheVariants.{Idle, Runs}
 use Rattle.rules.specs.declared.Late.{Late}
 use Rattle.rules.specs.declared.Answer.{Answer}
 use Rattle.rules.specs.Words.{unless, insert_by}
 use Rattle.rules.specs.Table.{Table, priority_of}
 use Rattle.rules.specs.Jobs.{Job, Pending, accepted, bare, new_job, released, before}
+use Rattle.rules.specs.Answers.{Choice, runs_as}
 use Rattle.rules.specs.Kernel.{dispatched, kernel}
 use Rattle.rules.specs.Calls.{View, tick_of, refusal}
 use Rattle.rules.specs.Late.{newly_late, marked_at}
@@ -100,8 +99,8 @@ abbrev pub running_job : Table → Board → Option Job
 running_job T b = running_in (running T b) b.jobs
 
 abbrev pub shown : Option Job → Choice
-shown none = Idle
-shown (some j) = Runs j.task j.due
+shown none = None
+shown (some j) = runs_as j.task j.due
 
 abbrev pub choice : Table → Board → Choice
 choice T b = shown (running_job T b)

@@ -3,6 +3,7 @@ pub mod Words
 pub mod Outcome
 pub mod Table
 pub mod Jobs
+pub mod Answers
 pub mod Kernel
 pub mod Calls
 pub mod Late

@@ -1,14 +1,13 @@
 -- Document 01, "Ticks and jobs", the plain scheduler of demand 3: no priorities, no delayed state, no kernel calls. Assumes nothing.
-use Rattle.std.specs.Prelude.{ℕ, cond, List, [], ◌∷◌, map}
+use Rattle.std.specs.Prelude.{ℕ, cond, List, [], ◌∷◌, map, None}
 use Rattle.std.proofs.Math.Option.{Option, some, none}
 use Rattle.rules.specs.declared.Tick.{Tick}
 use Rattle.rules.specs.declared.Call.{Call}
 use Rattle.rules.specs.declared.Call.TheVariants.{Wait, Activate, Terminate, Chain}
-use Rattle.rules.specs.declared.Choice.{Choice}
-use Rattle.rules.specs.declared.Choice.TheVariants.{Idle, Runs}
 use Rattle.rules.specs.Words.{unless}
 use Rattle.rules.specs.Table.{Table}
 use Rattle.rules.specs.Jobs.{Pending, accepted, before}
+use Rattle.rules.specs.Answers.{Choice, runs_as}
 use Rattle.rules.specs.Calls.{View, tick_of, refusal}
 
 -- the last accepted call's tick, and the pending jobs, the last accepted first
@@ -31,8 +30,8 @@ rest T j (k ∷ p) = cond (before T j (earliest T k p)) (k ∷ p) (j ∷ rest T 
 
 -- what runs; its task; and the jobs without it
 abbrev pub plain_choice : Table → List Pending → Choice
-plain_choice T [] = Idle
-plain_choice T (j ∷ p) = Runs (earliest T j p).task (earliest T j p).due
+plain_choice T [] = None
+plain_choice T (j ∷ p) = runs_as (earliest T j p).task (earliest T j p).due
 
 abbrev pub plain_runs : Table → List Pending → Option ℕ
 plain_runs T [] = none

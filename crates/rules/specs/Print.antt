@@ -1,11 +1,10 @@
 -- Document 01, "The program and one whole run": what the program prints for a tape, from bytes to bytes. Assumes nothing.
-use Rattle.std.specs.Prelude.{ℕ, zero, suc, ◌+◌, ◌/◌, ◌%◌, Bool, false, cond, List, [], ◌∷◌, ◌++◌, length, take, ltb, eqb}
+use Rattle.std.specs.Prelude.{ℕ, zero, suc, ◌+◌, ◌/◌, ◌%◌, Bool, false, cond, List, [], ◌∷◌, ◌++◌, length, take, ltb, eqb, Some, None}
 use Prim.Native.Char.{code}
 use Prim.Native.String.{String, len, char_at}
 use Rattle.rules.specs.declared.Tick.{Tick}
 use Rattle.rules.specs.declared.Call.{Call}
-use Rattle.rules.specs.declared.Choice.{Choice}
-use Rattle.rules.specs.declared.Choice.TheVariants.{Idle, Runs}
+use Rattle.rules.specs.declared.Running.{Running}
 use Rattle.rules.specs.declared.KernelCall.{KernelCall}
 use Rattle.rules.specs.declared.KernelCall.TheVariants.{NoCall, ActivateTask, ChainTask, TerminateTask}
 use Rattle.rules.specs.declared.Late.{Late}
@@ -19,6 +18,7 @@ use Rattle.rules.specs.declared.NumberRead.{NumberRead}
 use Rattle.rules.specs.declared.NumberRead.TheVariants.{Value, Refused}
 use Rattle.rules.specs.Words.{places}
 use Rattle.rules.specs.Table.{Table, verdict, check}
+use Rattle.rules.specs.Answers.{Choice}
 use Rattle.rules.specs.Calls.{tick_of}
 use Rattle.rules.specs.Layer.{Board, fresh, next, answer}
 use Rattle.rules.specs.Number.{bounded_at}
@@ -61,12 +61,12 @@ ended t = t ++ ascii "\n"
 -- ---- a call's line: its tick, result, running task, its deadline, kernel call, newly late tasks
 
 abbrev pub run_text : Choice → List ℕ
-run_text Idle = dash
-run_text (Runs n t) = decimal n
+run_text None = dash
+run_text (Some r) = decimal r.task
 
 abbrev pub due_text : Choice → List ℕ
-due_text Idle = dash
-due_text (Runs n t) = decimal t.0
+due_text None = dash
+due_text (Some r) = decimal r.due.0
 
 -- A, C with the task number, or T
 abbrev pub call_text : KernelCall → List ℕ

@@ -1,5 +1,5 @@
 -- What is claimed of the rules. Each claim is a type; specs/Claims.antt gathers them. Assumes nothing.
-use Rattle.std.specs.Prelude.{ℕ, ◌+◌, ◌<◌, ◌≤◌, min, ◌≡◌, ◌↔◌, ◌⊎◌, Bool, ◌&&◌, List, [], ◌∷◌, ◌++◌, map, length, get_or, eqb}
+use Rattle.std.specs.Prelude.{ℕ, ◌+◌, ◌<◌, ◌≤◌, min, ◌≡◌, ◌↔◌, ◌⊎◌, Bool, ◌&&◌, List, [], ◌∷◌, ◌++◌, map, length, get_or, eqb, None}
 use Rattle.std.proofs.Math.Option.{Option, some, none}
 use Rattle.rules.specs.declared.Tick.{Tick}
 use Rattle.rules.specs.declared.Phase.{Phase}
@@ -8,7 +8,6 @@ use Rattle.rules.specs.declared.Call.{Call}
 use Rattle.rules.specs.declared.Call.TheVariants.{Wait, Activate, Terminate, Chain}
 use Rattle.rules.specs.declared.KernelCall.{KernelCall}
 use Rattle.rules.specs.declared.KernelCall.TheVariants.{NoCall, ActivateTask, ChainTask, TerminateTask}
-use Rattle.rules.specs.declared.Choice.TheVariants.{Idle, Runs}
 use Rattle.rules.specs.declared.Late.{Late}
 use Rattle.rules.specs.declared.Answer.{Answer}
 use Rattle.rules.specs.declared.Named.TheVariants.{NoneNamed, TheLine, BothLines}
@@ -17,6 +16,7 @@ use Rattle.rules.specs.declared.Tally.{Tally}
 use Rattle.rules.specs.Words.{Within, count_by, count, only, last_or, All, Pairs}
 use Rattle.rules.specs.Table.{Table, size, line_of, deadline_of, priority_of, limit_of, limits, plus, DeadlineInRange, LimitInRange, InRange, Passes, Keeps, verdict, check}
 use Rattle.rules.specs.Jobs.{Job, Pending, bare, Before}
+use Rattle.rules.specs.Answers.{runs_as}
 use Rattle.rules.specs.Kernel.{dispatched, dequeued, kernel}
 use Rattle.rules.specs.Calls.{View}
 use Rattle.rules.specs.Late.{is_past, is_late, newly_late, falls_late}
@@ -31,7 +31,7 @@ use Rattle.rules.specs.History.{started_by, releases, job_of, acceptances, Ended
 -- the kernel and the plain scheduler side by side: the same job runs, none exactly when nothing is pending; both have the same last accepted tick and the same pending jobs (as many pass any test), and give every next call the same result
 pub record Agree (T : Table) (b : Board) (p : Plain) : Type 0 where
   pub same : choice T b ≡ plain_choice T p.pending
-  pub idle : (choice T b ≡ Idle) ↔ (b.jobs ≡ [])
+  pub idle : (choice T b ≡ None) ↔ (b.jobs ≡ [])
   pub tick : b.last ≡ p.last
   pub jobs : (test : Pending → Bool) → count_by test (map bare b.jobs) ≡ count_by test p.pending
   pub results : (e : Call) → result T b e ≡ plain_result T p e
@@ -66,8 +66,8 @@ parting T i j = Activate (part_at T i j) j ∷ Activate (part_at T i j) i ∷ []
 -- both are accepted; after them the kernel runs the longer, the plain scheduler the shorter
 pub record Part (T : Table) (i j : ℕ) : Type 0 where
   pub accepted : map (λ (a : Answer). a.result) (answers T fresh (parting T i j)) ≡ 0 ∷ 0 ∷ []
-  pub kernel : choice T (run T fresh (parting T i j)) ≡ Runs j (plus (part_at T i j) (deadline_of T j))
-  pub plain : plain_choice T (plain_run T start (parting T i j)).pending ≡ Runs i (plus (part_at T i j) (deadline_of T i))
+  pub kernel : choice T (run T fresh (parting T i j)) ≡ runs_as j (plus (part_at T i j) (deadline_of T j))
+  pub plain : plain_choice T (plain_run T start (parting T i j)).pending ≡ runs_as i (plus (part_at T i j) (deadline_of T i))
   pub apart : choice T (run T fresh (parting T i j)) ≡ plain_choice T (plain_run T start (parting T i j)).pending → ⊥
 
 -- so it is for every breaking pair; and the check gives 5
@@ -84,13 +84,13 @@ pub record Edf (T : Table) (p : List Pending) : Type 0 where
   pub among : p ≡ newer ++ (job ∷ older)
   pub earliest : All (λ (j : Pending). job.due.0 ≤ j.due.0) newer
   pub first : All (λ (j : Pending). job.due.0 < j.due.0) older
-  pub runs : plain_choice T p ≡ Runs job.task job.due
+  pub runs : plain_choice T p ≡ runs_as job.task job.due
   pub of_task : plain_runs T p ≡ some job.task
   pub others : plain_others T p ≡ newer ++ older
 
 -- the plain scheduler runs the earliest deadline, the first accepted on equal ones; nothing where nothing is pending
 abbrev pub PlainIsEdf : Type 0
-PlainIsEdf = (T : Table) (p : List Pending) → ((p ≡ []) × (plain_choice T p ≡ Idle)) ⊎ (Edf T p)
+PlainIsEdf = (T : Table) (p : List Pending) → ((p ≡ []) × (plain_choice T p ≡ None)) ⊎ (Edf T p)
 
 -- one of the ready queue q runs: those released before it have lower priorities, those released after it none higher
 pub record Highest (level : ℕ → ℕ) (q : List ℕ) : Type 0 where

@@ -1,14 +1,15 @@
 -- Q-1, "Why is my task waiting?": why a task's first pending job, in list order, does or does not run. Assumes nothing.
-use Rattle.std.specs.Prelude.{ℕ, ◌<◌, ◌≤◌, ◌≡◌, ◌↔◌, Bool, cond, List, [], ◌∷◌, ◌++◌, ltb, eqb}
+use Rattle.std.specs.Prelude.{ℕ, ◌<◌, ◌≤◌, ◌≡◌, ◌↔◌, Bool, cond, List, [], ◌∷◌, ◌++◌, ltb, eqb, Result, Ok, Err}
 use Rattle.std.proofs.Math.Option.{Option, some, none}
 use Rattle.rules.specs.declared.Call.{Call}
 use Rattle.rules.specs.declared.Reason.{Reason}
 use Rattle.rules.specs.declared.Reason.TheVariants.{NonePending, ItRuns, Earlier, ThereFirst}
-use Rattle.rules.specs.declared.Why.{Why}
-use Rattle.rules.specs.declared.Why.TheVariants.{Because, Refused}
+use Rattle.rules.specs.declared.CallRefusal.{CallRefusal}
+use Rattle.rules.specs.declared.CallRefusal.TheVariants.{NoTask}
 use Rattle.rules.specs.Words.{◌if◌else◌, All}
 use Rattle.rules.specs.Table.{Table, Keeps, size}
 use Rattle.rules.specs.Jobs.{Job, key_at}
+use Rattle.rules.specs.Answers.{call_number}
 use Rattle.rules.specs.Calls.{bad_task}
 use Rattle.rules.specs.Layer.{Board, fresh, running_job}
 use Rattle.rules.specs.Run.{run}
@@ -70,8 +71,8 @@ reason T n (some a) (some r) =
     else ThereFirst r.task r.due
 
 -- 3 for a task without a line; otherwise the reason
-unfoldable pub why : Table → Board → ℕ → Why
-why T b n = Refused 3 if bad_task T n else Because (reason T n (asked n b.jobs) (running_job T b))
+unfoldable pub why : Table → Board → ℕ → Result Reason CallRefusal
+why T b n = Err NoTask if bad_task T n else Ok (reason T n (asked n b.jobs) (running_job T b))
 
 -- ---- what is claimed
 
@@ -80,7 +81,7 @@ pub record TheReason (T : Table) (b : Board) (n : ℕ) : Type 0 where
   pub reason : Reason
   pub fits : Fits T b n reason
   pub only : (r : Reason) → Fits T b n r → r ≡ reason
-  pub answer : why T b n ≡ Because reason
+  pub answer : why T b n ≡ Ok reason
 
 -- so it is after any sequence of calls, for every task with a line
 abbrev pub WhyTrue : Type 0
@@ -88,8 +89,8 @@ WhyTrue = (T : Table) → Keeps T → (calls : List Call) (n : ℕ) → n < size
 
 -- 3 is given exactly for a task without a line, and no other number
 pub record WhyRefuses (T : Table) (b : Board) (n : ℕ) : Type 0 where
-  pub three : (why T b n ≡ Refused 3) ↔ (size T ≤ n)
-  pub no_other : (k : ℕ) → why T b n ≡ Refused k → k ≡ 3
+  pub three : (why T b n ≡ Err NoTask) ↔ (size T ≤ n)
+  pub no_other : (k : CallRefusal) → why T b n ≡ Err k → call_number k ≡ 3
 
 abbrev pub WhyRefused : Type 0
 WhyRefused = (T : Table) (b : Board) (n : ℕ) → WhyRefuses T b n

@@ -1,12 +1,12 @@
 -- Q-1, the program tape_why: a tape is run as document 01 runs it, with no print on the way; then a line says of each task why it waits. Assumes nothing.
-use Rattle.std.specs.Prelude.{ℕ, zero, suc, List, [], ◌∷◌, ◌++◌}
+use Rattle.std.specs.Prelude.{ℕ, zero, suc, List, [], ◌∷◌, ◌++◌, Result, Ok, Err}
 use Rattle.rules.specs.declared.Opening.{Opening}
 use Rattle.rules.specs.declared.Opening.TheVariants.{Accepted, BadTable, BadTape}
 use Rattle.rules.specs.declared.Reason.{Reason}
 use Rattle.rules.specs.declared.Reason.TheVariants.{NonePending, ItRuns, Earlier, ThereFirst}
-use Rattle.rules.specs.declared.Why.{Why}
-use Rattle.rules.specs.declared.Why.TheVariants.{Because, Refused}
+use Rattle.rules.specs.declared.CallRefusal.{CallRefusal}
 use Rattle.rules.specs.Table.{Table, size}
+use Rattle.rules.specs.Answers.{call_number}
 use Rattle.rules.specs.Layer.{Board, fresh}
 use Rattle.rules.specs.Tape.{zero_tick, Records, records_at}
 use Rattle.rules.specs.Run.{run}
@@ -23,11 +23,11 @@ reason_words (Earlier m t) = ascii "is waiting: task" ∷ decimal m ∷ ascii "i
 reason_words (ThereFirst m t) =
     ascii "is waiting: task" ∷ decimal m ∷ ascii "was there first and is running with the same deadline" ∷ decimal t.0 ∷ []
 
-abbrev pub why_words : Why → List (List ℕ)
-why_words (Because r) = reason_words r
-why_words (Refused k) = ascii "is refused:" ∷ decimal k ∷ []
+abbrev pub why_words : Result Reason CallRefusal → List (List ℕ)
+why_words (Ok r) = reason_words r
+why_words (Err k) = ascii "is refused:" ∷ decimal (call_number k) ∷ []
 
-unfoldable pub why_text : ℕ → Why → List ℕ
+unfoldable pub why_text : ℕ → Result Reason CallRefusal → List ℕ
 why_text n w = spaced (ascii "task" ∷ decimal n ∷ why_words w)
 
 -- ---- the whole print

@@ -73,11 +73,11 @@ pub enum KernelCall {
     TerminateTask,
 }
 
-// What runs: nothing, or a job by its task and deadline.
+// The job that runs, by its task and deadline.
 #[derive(Clone, Copy)]
-pub enum Choice {
-    Idle,
-    Runs(u8, Tick),
+pub struct Running {
+    pub task: u8,
+    pub due: Tick,
 }
 
 // Newly late jobs: their count, and their tasks in 32 places, unused places 0.
@@ -92,7 +92,7 @@ pub struct Late {
 #[derive(Clone, Copy)]
 pub struct Answer {
     pub result: u8,
-    pub running: Choice,
+    pub running: Option<Running>,
     pub call: KernelCall,
     pub late: Late,
 }
@@ -152,11 +152,26 @@ pub enum Reason {
     ThereFirst(u8, Tick),
 }
 
-// What is answered to why a task waits: the reason, or the refusal's number.
+// Why a call is refused: the rows of document 01 by their numbers.
 #[derive(Clone, Copy)]
-pub enum Why {
-    Because(Reason),
-    Refused(u8),
+pub enum CallRefusal {
+    NoJob = 2,
+    NoTask = 3,
+    LimitReached = 4,
+    BadTick = 8,
+    DueBeyond = 9,
+    NoPlace = 10,
+}
+
+impl From<CallRefusal> for u8 {
+    ghost use Rattle.std.specs.Prelude.{◌≡◌};
+    ghost use Rattle.rules.specs.Answers.{call_number};
+
+    ghost from_gives = { λ refusal number. number ≡ call_number refusal };
+
+    fn from(refusal: CallRefusal) -> u8 {
+        refusal as u8
+    }
 }
 
 // Does nothing. Its contract is all of specs/Claims, so that a claim without a proof fails the check.
