@@ -10,7 +10,6 @@ use borrow.Author.Tests.{ltb-true, ltb-false, lt-ltb, le-ltb, leb-true, leb-fals
 use Rattle.rules.specs.declared.Reason.{Reason}
 use Rattle.rules.specs.declared.Reason.TheVariants.{NonePending, ItRuns, Earlier, ThereFirst}
 use Rattle.std.specs.Prelude.{Ok, Err}
-use Rattle.rules.specs.declared.CallRefusal.{CallRefusal}
 use Rattle.rules.specs.declared.CallRefusal.TheVariants.{NoTask}
 use Rattle.rules.specs.Answers.{call_number}
 use Rattle.rules.specs.Words.{◌if◌else◌, All}

@@ -1,5 +1,5 @@
 -- Document 01, "What a call returns": what runs, and the numbers of the refusals. Assumes nothing.
-use Rattle.std.specs.Prelude.{ℕ, Option, Some, None, Result, Ok, Err}
+use Rattle.std.specs.Prelude.{ℕ, Option, Some, Result, Ok, Err}
 use Rattle.rules.specs.declared.Tick.{Tick}
 use Rattle.rules.specs.declared.Running.{Running}
 use Rattle.rules.specs.declared.CallRefusal.{CallRefusal}

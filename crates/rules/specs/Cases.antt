@@ -13,11 +13,8 @@ use Rattle.rules.specs.declared.KernelCall.{KernelCall}
 use Rattle.rules.specs.declared.KernelCall.TheVariants.{NoCall, ActivateTask, ChainTask, TerminateTask}
 use Rattle.rules.specs.declared.Answer.{Answer}
 use Rattle.rules.specs.declared.Tally.{Tally}
-use Rattle.rules.specs.declared.NumberRead.TheVariants.{Value, Refused}
-use Rattle.rules.specs.declared.RecordRead.{RecordRead}
-use Rattle.rules.specs.declared.Written.{Written}
-use Rattle.rules.specs.declared.Written.TheVariants.{Count}
-use Rattle.rules.specs.Number.{bytes_of, number_at}
+use Rattle.rules.specs.declared.TapeRefusal.TheVariants.{CutShort, ZeroGroup, UnknownKind, AboveBound, Unwritable, NoRoom}
+use Rattle.rules.specs.Number.{bytes_of, taken, number_at}
 use Rattle.rules.specs.Tape.{lines_bytes, tape_of, record_at, read_tape, whole, written, stored}
 use Rattle.rules.specs.Table.{Table, deadline_of, priority_of, greatest, verdict, check}
 use Rattle.rules.specs.Jobs.{Job, Pending, before}
@@ -203,26 +200,26 @@ pub record Cases : Type 0 where
       ∷ says 0 (runs_as 0 (at 6)) NoCall []
       ∷ []
   pub j_first_call_after : answer table_p (run table_p fresh (Activate (at 3) 0 ∷ Wait (at 5) ∷ [])) (Wait (at 7)) ≡ says 0 (runs_as 0 (at 6)) NoCall (0 ∷ [])
-  pub k_not_shortest : number_at (0x80 ∷ 0x00 ∷ []) 0 ≡ Refused 21
-  pub k_cut_off : number_at (0x80 ∷ []) 0 ≡ Refused 20
+  pub k_not_shortest : number_at (0x80 ∷ 0x00 ∷ []) 0 ≡ Err ZeroGroup
+  pub k_cut_off : number_at (0x80 ∷ []) 0 ≡ Err CutShort
   pub l_fits : check (table (line 3 2 16 ∷ line 5 1 16 ∷ [])) ≡ verdict 0 NoneNamed
   pub l_too_many : check (table (line 3 2 16 ∷ line 5 1 17 ∷ [])) ≡ verdict 4 NoneNamed
   -- a number, a record, a write
   pub number_writes_127 : bytes_of 127 ≡ 0x7F ∷ []
   pub number_writes_128 : bytes_of 128 ≡ 0x80 ∷ 0x01 ∷ []
   pub number_writes_300 : bytes_of 300 ≡ 0xAC ∷ 0x02 ∷ []
-  pub number_127 : number_at (0x7F ∷ []) 0 ≡ Value 127 1
-  pub number_128 : number_at (0x80 ∷ 0x01 ∷ []) 0 ≡ Value 128 2
-  pub number_300 : number_at (0xAC ∷ 0x02 ∷ []) 0 ≡ Value 300 2
+  pub number_127 : number_at (0x7F ∷ []) 0 ≡ taken 127 1
+  pub number_128 : number_at (0x80 ∷ 0x01 ∷ []) 0 ≡ taken 128 2
+  pub number_300 : number_at (0xAC ∷ 0x02 ∷ []) 0 ≡ taken 300 2
   pub number_nine_groups :
-      number_at (0xFF ∷ 0xFF ∷ 0xFF ∷ 0xFF ∷ 0xFF ∷ 0xFF ∷ 0xFF ∷ 0xFF ∷ 0x3F ∷ []) 0 ≡ Value 4611686018427387903 9
+      number_at (0xFF ∷ 0xFF ∷ 0xFF ∷ 0xFF ∷ 0xFF ∷ 0xFF ∷ 0xFF ∷ 0xFF ∷ 0x3F ∷ []) 0 ≡ taken 4611686018427387903 9
   pub number_tenth_group :
-      number_at (0xFF ∷ 0xFF ∷ 0xFF ∷ 0xFF ∷ 0xFF ∷ 0xFF ∷ 0xFF ∷ 0xFF ∷ 0xBF ∷ 0x01 ∷ []) 0 ≡ Refused 23
-  pub record_kind_first : record_at (0x04 ∷ []) 0 (at 0) ≡ RecordRead.Refused 22
-  pub record_sum_first : record_at (0x01 ∷ 0x01 ∷ []) 0 greatest ≡ RecordRead.Refused 23
-  pub write_24_first : written true (bytes_of 300) 1 ≡ Written.Refused 24
-  pub write_too_short : written false (bytes_of 300) 1 ≡ Written.Refused 25
-  pub write_just_fits : written false (bytes_of 300) 2 ≡ Count 2
+      number_at (0xFF ∷ 0xFF ∷ 0xFF ∷ 0xFF ∷ 0xFF ∷ 0xFF ∷ 0xFF ∷ 0xFF ∷ 0xBF ∷ 0x01 ∷ []) 0 ≡ Err AboveBound
+  pub record_kind_first : record_at (0x04 ∷ []) 0 (at 0) ≡ Err UnknownKind
+  pub record_sum_first : record_at (0x01 ∷ 0x01 ∷ []) 0 greatest ≡ Err AboveBound
+  pub write_24_first : written true (bytes_of 300) 1 ≡ Err Unwritable
+  pub write_too_short : written false (bytes_of 300) 1 ≡ Err NoRoom
+  pub write_just_fits : written false (bytes_of 300) 2 ≡ Ok 2
   pub write_left_as_it_was : stored false (bytes_of 300) (0xEE ∷ []) ≡ 0xEE ∷ []
   pub write_nothing_behind : stored false (bytes_of 300) (0xEE ∷ 0xEE ∷ 0xEE ∷ []) ≡ 0xAC ∷ 0x02 ∷ 0xEE ∷ []
   -- rows of the check and of the calls

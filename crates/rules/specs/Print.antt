@@ -1,10 +1,9 @@
 -- Document 01, "The program and one whole run": what the program prints for a tape, from bytes to bytes. Assumes nothing.
-use Rattle.std.specs.Prelude.{ℕ, zero, suc, ◌+◌, ◌/◌, ◌%◌, Bool, false, cond, List, [], ◌∷◌, ◌++◌, length, take, ltb, eqb, Some, None}
+use Rattle.std.specs.Prelude.{ℕ, zero, suc, ◌+◌, ◌/◌, ◌%◌, Bool, false, cond, List, [], ◌∷◌, ◌++◌, length, take, ltb, eqb, Some, None, Ok, Err}
 use Prim.Native.Char.{code}
 use Prim.Native.String.{String, len, char_at}
 use Rattle.rules.specs.declared.Tick.{Tick}
 use Rattle.rules.specs.declared.Call.{Call}
-use Rattle.rules.specs.declared.Running.{Running}
 use Rattle.rules.specs.declared.KernelCall.{KernelCall}
 use Rattle.rules.specs.declared.KernelCall.TheVariants.{NoCall, ActivateTask, ChainTask, TerminateTask}
 use Rattle.rules.specs.declared.Late.{Late}
@@ -14,15 +13,14 @@ use Rattle.rules.specs.declared.Named.TheVariants.{NoneNamed, TheLine, BothLines
 use Rattle.rules.specs.declared.Verdict.{Verdict}
 use Rattle.rules.specs.declared.Opening.{Opening}
 use Rattle.rules.specs.declared.Opening.TheVariants.{Accepted, BadTable, BadTape}
-use Rattle.rules.specs.declared.NumberRead.{NumberRead}
-use Rattle.rules.specs.declared.NumberRead.TheVariants.{Value, Refused}
+use Rattle.rules.specs.declared.TapeRefusal.TheVariants.{TooLong}
 use Rattle.rules.specs.Words.{places}
 use Rattle.rules.specs.Table.{Table, verdict, check}
 use Rattle.rules.specs.Answers.{Choice}
 use Rattle.rules.specs.Calls.{tick_of}
 use Rattle.rules.specs.Layer.{Board, fresh, next, answer}
-use Rattle.rules.specs.Number.{bounded_at}
-use Rattle.rules.specs.Tape.{greatest_byte, zero_tick, Read, got, no, table_at, Stop, at_end, at_refusal, Records, records_at}
+use Rattle.rules.specs.Number.{Read, tape_number, bounded_at}
+use Rattle.rules.specs.Tape.{greatest_byte, zero_tick, table_at, Stop, at_end, at_refusal, Records, records_at}
 
 -- ---- words, numbers and lines, byte by byte
 
@@ -126,7 +124,7 @@ calls_text T b (e ∷ es) = ended (answer_text (tick_of e) (answer T b e)) ++ ca
 -- a bad tape ends the print with its line
 abbrev pub stop_text : Stop → List ℕ
 stop_text at_end = []
-stop_text (at_refusal n p) = ended (tape_text n p)
+stop_text (at_refusal k p) = ended (tape_text (tape_number k) p)
 
 abbrev pub records_text : Table → Board → Records → List ℕ
 records_text T b rs = calls_text T b rs.calls ++ stop_text rs.stop
@@ -153,18 +151,18 @@ checked_as T p = cond (eqb (check T).number 0) (record { answer = Accepted; tabl
 
 -- the place is 0 for the table
 abbrev pub table_opened : Read Table → Opened
-table_opened (got T p) = checked_as T p
-table_opened (no k) = unopened (BadTape k 0)
+table_opened (Ok t) = checked_as t.value t.next
+table_opened (Err k) = unopened (BadTape (tape_number k) 0)
 
 -- a count above 32
-abbrev pub count_above : NumberRead → Bool
-count_above (Value n p) = ltb places n
-count_above (Refused k) = false
+abbrev pub count_above : Read ℕ → Bool
+count_above (Ok t) = ltb places t.value
+count_above (Err k) = false
 
 -- 26 goes before everything, at the first byte too many; a count above 32 is refused as table 1 as soon as it is read
 unfoldable pub opening : List ℕ → Opened
 opening tape =
-    cond (ltb longest (length tape)) (unopened (BadTape 26 longest))
+    cond (ltb longest (length tape)) (unopened (BadTape (tape_number TooLong) longest))
     (cond (count_above (bounded_at greatest_byte tape 0)) (unopened (BadTable (verdict 1 NoneNamed)))
     (table_opened (table_at tape)))
 

@@ -106,33 +106,34 @@ pub struct Tally {
     pub response: u64,
 }
 
-// What reading a number on tape gives: its value and the place after it, or the refusal's number.
-#[derive(Clone, Copy)]
-pub enum NumberRead {
-    Value { value: u64, next: usize },
-    Refused(u8),
+// What was read on a tape, and the place after it.
+#[derive(Clone, Copy, Debug, PartialEq, Eq)]
+pub struct Taken<T> {
+    pub value: T,
+    pub next: usize,
 }
 
-// What reading a record on tape gives: the call with its tick and the place after it, the end of the tape, or the refusal's number.
-#[derive(Clone, Copy)]
-pub enum RecordRead {
-    Record { call: Call, next: usize },
-    End,
-    Refused(u8),
+// Why a tape or a write is refused, by document 01's numbers: the bytes end inside a number, the last of several groups is 0, a kind above 3, a value above its bound, what no tape can say, a buffer that is shorter than the bytes, a tape longer than a program takes.
+#[derive(Clone, Copy, Debug, PartialEq, Eq)]
+pub enum TapeRefusal {
+    CutShort = 20,
+    ZeroGroup = 21,
+    UnknownKind = 22,
+    AboveBound = 23,
+    Unwritable = 24,
+    NoRoom = 25,
+    TooLong = 26,
 }
 
-// What reading a line of the table on tape gives: the line and the place after it, or the refusal's number.
-#[derive(Clone, Copy)]
-pub enum LineRead {
-    Whole { line: Line, next: usize },
-    Refused(u8),
-}
+impl From<TapeRefusal> for u8 {
+    ghost use Rattle.std.specs.Prelude.{◌≡◌};
+    ghost use Rattle.rules.specs.Number.{tape_number};
 
-// What writing to a buffer gives: the count of the bytes written, or the refusal's number.
-#[derive(Clone, Copy)]
-pub enum Written {
-    Count(usize),
-    Refused(u8),
+    ghost from_gives = { λ refusal number. number ≡ tape_number refusal };
+
+    fn from(refusal: TapeRefusal) -> u8 {
+        refusal as u8
+    }
 }
 
 // How a tape opens: its table is accepted, or refused with the check's answer, or the tape is bad, with the refusal's number and the place.
