@@ -1,18 +1,27 @@
--- One outcome: any two that satisfy what the source of a public function ensures are equal, its lent buffer included. A field for each. Assumes nothing.
-use Rattle.rules.proofs.Outcome.{OneStatedWith, only}
-use Rattle.print.proofs.byte.Reads as byte
-use Rattle.print.proofs.words.Reads as words
-use Rattle.print.proofs.number.Reads as number
-use Rattle.print.proofs.two.Reads as two
-use Rattle.print.proofs.running.Reads as running
-use Rattle.print.proofs.answer.Reads as answer
-use Rattle.print.proofs.verdict.Reads as verdict
-use Rattle.print.proofs.answer_line.Reads as answer_line
-use Rattle.print.proofs.header_line.Reads as header_line
-use Rattle.print.proofs.table_line.Reads as table_line
-use Rattle.print.proofs.tape_line.Reads as tape_line
+-- One outcome: any two that satisfy what the source of a public function ensures are equal, its lent page included. A field for each. Assumes nothing.
+use Prim.Native.Nat.{ℕ}
+use mathlib.Core.List.{List}
+use mathlib.Core.Path.{◌≡◌, refl}
+use Rattle.rules.proofs.Outcome.{OneStated, OneStatedWith, only}
+use Rattle.print.specs.declared.Page.{Page}
+use Rattle.print.specs.Buffers.{Put}
+use Rattle.print.proofs.Page.new.Reads as new
+use Rattle.print.proofs.Page.clear.Reads as clear
+use Rattle.print.proofs.Page.byte.Reads as byte
+use Rattle.print.proofs.Page.words.Reads as words
+use Rattle.print.proofs.Page.number.Reads as number
+use Rattle.print.proofs.Page.two.Reads as two
+use Rattle.print.proofs.Page.running.Reads as running
+use Rattle.print.proofs.Page.answer.Reads as answer
+use Rattle.print.proofs.Page.verdict.Reads as verdict
+use Rattle.print.proofs.Page.answer_line.Reads as answer_line
+use Rattle.print.proofs.Page.header_line.Reads as header_line
+use Rattle.print.proofs.Page.table_line.Reads as table_line
+use Rattle.print.proofs.Page.tape_line.Reads as tape_line
 
 pub record Outcomes : Type 0 where
+  new : OneStated new.Post
+  clear : OneStatedWith clear.Post (λ κs s. s.0.now)
   byte : OneStatedWith byte.Post (λ κs s. s.0.now)
   words : OneStatedWith words.Post (λ κs s. s.0.now)
   number : OneStatedWith number.Post (λ κs s. s.0.now)
@@ -25,18 +34,24 @@ pub record Outcomes : Type 0 where
   table_line : OneStatedWith table_line.Post (λ κs s. s.0.now)
   tape_line : OneStatedWith tape_line.Post (λ κs s. s.0.now)
 
+-- a text put on a page leaves one page
+pub one_page : {old : List ℕ} {at : ℕ} {t : List ℕ} (p q : Page) → Put old at t p.bytes p.len → Put old at t q.bytes q.len → p ≡ q
+one_page p q x y = λ i. record { bytes = only x.is y.is i; len = only x.place y.place i }
+
 pub the_outcomes : Outcomes
 the_outcomes =
     record {
-      byte = λ κs a r r' s s' p q. (only p.place q.place, only p.is q.is);
-      words = λ κs a r r' s s' p q. (only p.place q.place, only p.is q.is);
-      number = λ κs a r r' s s' p q. (only p.place q.place, only p.is q.is);
-      two = λ κs a r r' s s' p q. (only p.place q.place, only p.is q.is);
-      running = λ κs a r r' s s' p q. (only p.place q.place, only p.is q.is);
-      answer = λ κs a r r' s s' p q. (only p.place q.place, only p.is q.is);
-      verdict = λ κs a r r' s s' p q. (only p.place q.place, only p.is q.is);
-      answer_line = λ κs a r r' s s' p q. (only p.place q.place, only p.is q.is);
-      header_line = λ κs a r r' s s' p q. (only p.place q.place, only p.is q.is);
-      table_line = λ κs a r r' s s' p q. (only p.place q.place, only p.is q.is);
-      tape_line = λ κs a r r' s s' p q. (only p.place q.place, only p.is q.is);
+      new = λ κs a r r' s s' p q. λ i. record { bytes = only p.0 q.0 i; len = only p.1 q.1 i };
+      clear = λ κs a r r' s s' p q. (refl, λ i. record { bytes = only p.0 q.0 i; len = only p.1 q.1 i });
+      byte = λ κs a r r' s s' p q. (refl, one_page s.0.now s'.0.now p q);
+      words = λ κs a r r' s s' p q. (refl, one_page s.0.now s'.0.now p q);
+      number = λ κs a r r' s s' p q. (refl, one_page s.0.now s'.0.now p q);
+      two = λ κs a r r' s s' p q. (refl, one_page s.0.now s'.0.now p q);
+      running = λ κs a r r' s s' p q. (refl, one_page s.0.now s'.0.now p q);
+      answer = λ κs a r r' s s' p q. (refl, one_page s.0.now s'.0.now p q);
+      verdict = λ κs a r r' s s' p q. (refl, one_page s.0.now s'.0.now p q);
+      answer_line = λ κs a r r' s s' p q. (refl, one_page s.0.now s'.0.now p q);
+      header_line = λ κs a r r' s s' p q. (refl, one_page s.0.now s'.0.now p q);
+      table_line = λ κs a r r' s s' p q. (refl, one_page s.0.now s'.0.now p q);
+      tape_line = λ κs a r r' s s' p q. (refl, one_page s.0.now s'.0.now p q);
     }

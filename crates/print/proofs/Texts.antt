@@ -4,7 +4,7 @@ use mathlib.Core.Path.{◌≡◌, refl, sym, ap, ◌∙◌, subst}
 use mathlib.Core.Bool.{Bool, true, false}
 use mathlib.Core.List.{List, [], ◌∷◌, ◌++◌, append_assoc, append-nil}
 use lib.ListN.{length, take, drop, set, get_or, length-take, length-append}
-use lib.Seq.{sets, length-sets, take_all, take-suc, drop-append-le}
+use lib.Seq.{sets, length-sets, take_all, take-suc}
 use lib.Dec.{leb, lit<}
 use native.Mathlib.Omega.{arith}
 use native.Mathlib.Numerals.{add-one}
@@ -108,28 +108,21 @@ pub pairs_spaced : (t u v w y : List ℕ)
 pairs_spaced t u v w y =
     pair_spaced t u ((v ++ (32 ∷ w)) ++ (32 ∷ y)) ∙ ap (λ (s : List ℕ). t ++ (32 ∷ (u ++ (32 ∷ s)))) (pair_spaced v w y)
 
-pub tasks_split : (ts : List ℕ) (n : ℕ) → 1 ≤ n → 1 ≤ length ts → decimal (get_or ts 0 0) ++ comma_tasks (drop 1 (take n ts)) ≡ tasks_text (take n ts)
+pub no_tasks : (ts : List ℕ) → length ts < 1 → 45 ∷ [] ≡ tasks_text ts
 unfolding tasks_text
-tasks_split [] n h l = absurd (not-suc-le-zero l)
-tasks_split (t ∷ ts) zero h l = absurd (not-suc-le-zero h)
-tasks_split (t ∷ ts) (suc n) h l = refl
+no_tasks [] l = refl
+no_tasks (t ∷ ts) l = absurd (omega arith)
+
+pub tasks_split : (ts : List ℕ) → 1 ≤ length ts → decimal (get_or ts 0 0) ++ comma_tasks (take (length ts - 1) (drop 1 ts)) ≡ tasks_text ts
+unfolding tasks_text
+tasks_split [] l = absurd (not-suc-le-zero l)
+tasks_split (t ∷ ts) l = ap (λ (s : List ℕ). decimal t ++ comma_tasks s) (take_all (suc (length ts) - 1) ts (omega arith))
 
 last_task : (ts : List ℕ) (t : ℕ) → comma_tasks ts ++ (44 ∷ decimal t) ≡ comma_tasks (ts ++ (t ∷ []))
 unfolding comma_tasks
 last_task [] t = sym (append-nil (44 ∷ decimal t))
 last_task (x ∷ ts) t = append_assoc (44 ∷ decimal x) (comma_tasks ts) (44 ∷ decimal t) ∙ ap (λ (s : List ℕ). (44 ∷ decimal x) ++ s) (last_task ts t)
 
-pub first_tasks : (ts : List ℕ) → [] ≡ comma_tasks (drop 1 (take 1 ts))
-unfolding comma_tasks
-first_tasks [] = refl
-first_tasks (t ∷ ts) = refl
-
 -- one task more
-pub more_tasks : (ts : List ℕ) (i : ℕ) → 1 ≤ i → i < length ts → comma_tasks (drop 1 (take i ts)) ++ (44 ∷ decimal (get_or ts i 0)) ≡ comma_tasks (drop 1 (take (i + 1) ts))
-more_tasks ts i h l =
-    last_task (drop 1 (take i ts)) (get_or ts i 0)
-    ∙ ap comma_tasks (sym (rw (add-one, take-suc ts i 0 l) (drop-append-le 1 (take i ts) (get_or ts i 0 ∷ []) (omega (arith, length-take i ts, h, l)))))
-
--- of 32 tasks
-pub tasks_all : (ts : List ℕ) (n : ℕ) → length ts ≡ 32 → 32 < n → tasks_text (take 32 ts) ≡ tasks_text (take n ts)
-tasks_all ts n h l = ap tasks_text (take_all 32 ts (omega (arith, h)) ∙ sym (take_all n ts (omega (arith, h, l))))
+pub more_tasks : (ts : List ℕ) (i : ℕ) → i < length ts → comma_tasks (take i ts) ++ (44 ∷ decimal (get_or ts i 0)) ≡ comma_tasks (take (i + 1) ts)
+more_tasks ts i l = last_task (take i ts) (get_or ts i 0) ∙ ap comma_tasks (sym (rw add-one (take-suc ts i 0 l)))

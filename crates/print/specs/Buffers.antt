@@ -1,8 +1,8 @@
--- What stands in a lent buffer once a text was put into it. Assumes nothing.
+-- What stands in a lent buffer once a text was put into it: the bytes of a page, from the place that its `len` is. Assumes nothing.
 use Rattle.std.specs.Prelude.{ℕ, ◌+◌, ◌-◌, ◌≡◌, List, [], ◌∷◌, length, take}
 use Rattle.std.proofs.lemmas.List.Edits.{sets}
-use Rattle.rules.specs.declared.Choice.{Choice}
 use Rattle.rules.specs.declared.Named.{Named}
+use Rattle.rules.specs.Answers.{Choice}
 use Rattle.rules.specs.Print.{spaced, run_text, due_text, first_text, second_text}
 
 -- what there is room for from a place on

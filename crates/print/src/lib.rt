@@ -1,210 +1,208 @@
-// Lines as document 01 prints them, put into a lent buffer.
+// Lines as document 01 prints them, put on a page.
 #![tactic(auto)]
 
-ghost use Rattle.std.specs.Prelude.{[], ◌∷◌, ◌≤◌, take, drop};
-ghost use Rattle.rules.specs.Print.{decimal, spaced, ended, call_text, comma_tasks, late_text, answer_text, header_text, table_text, tape_text};
-ghost use Rattle.print.specs.Buffers.{Put, choice_text, named_text};
+use rules::{Answer, KernelCall, Late, Named, PLACES, Running, Tick, Verdict};
 
-use rules::{Answer, Choice, KernelCall, Late, Named, Tick, Verdict};
-
-// How many bytes the buffer has. What does not fit is left out.
+// How many bytes a page has. What does not fit is left out.
 pub const ROOM: usize = 65536;
 
-// ---- parts of a line: each is put at a place, and gives the place behind it (specs/Buffers)
-
-// On a slice, whose length the test reads.
-fn put(out: &mut [u8], at: usize, b: u8) -> usize
-    ensures { Put out.old at (b ∷ []) out.new result }
-{
-    if at < out.len() {
-        out[at] = b;
-        return at + 1;
-    }
-    at
+// Bytes, and how many of them are put: a text goes behind them (specs/Buffers). By methods, not `fmt::Display`: std promises nothing of the bytes that `fmt` writes.
+#[derive(Drop)]
+pub struct Page {
+    pub bytes: [u8; ROOM],
+    pub len: usize,
 }
 
-pub fn byte(out: &mut [u8; ROOM], at: usize, b: u8) -> usize
-    ensures { Put out.old at (b ∷ []) out.new result }
-{
-    put(out, at, b)
-}
+impl Page {
+    ghost use Rattle.std.specs.Prelude.{◌≡◌, [], ◌∷◌, replicate};
+    ghost use Rattle.rules.specs.Print.{decimal, spaced, ended, call_text, comma_tasks, late_text, answer_text, header_text, table_text, tape_text};
+    ghost use Rattle.print.specs.Buffers.{Put, choice_text, named_text};
 
-pub fn words(out: &mut [u8; ROOM], at: usize, text: &[u8]) -> usize
-    ensures { Put out.old at text.now out.new result }
-{
-    let mut next = at;
-    let mut i = 0;
-    while i < text.len() {
-        next = byte(out, next, text[i]);
-        i += 1;
-    }
-    next
-}
-
-pub fn number(out: &mut [u8; ROOM], at: usize, n: u64) -> usize
-    ensures { Put out.old at (decimal n) out.new result }
-{
-    let mut digits = [0u8; 20];
-    let k = io::decimal(n, &mut digits);
-    words(out, at, &digits[..k])
-}
-
-// A letter and a task number.
-fn named(out: &mut [u8; ROOM], at: usize, letter: u8, task: u8) -> usize
-    ensures { Put out.old at (letter ∷ decimal task) out.new result }
-{
-    let next = byte(out, at, letter);
-    number(out, next, task as u64)
-}
-
-// Two numbers with a space between them.
-pub fn two(out: &mut [u8; ROOM], at: usize, x: u64, y: u64) -> usize
-    ensures { Put out.old at (spaced (decimal x ∷ decimal y ∷ [])) out.new result }
-{
-    let next = number(out, at, x);
-    let next = byte(out, next, b' ');
-    number(out, next, y)
-}
-
-// The running task and its deadline.
-pub fn running(out: &mut [u8; ROOM], at: usize, choice: Choice) -> usize
-    ensures { Put out.old at (choice_text choice) out.new result }
-{
-    match choice {
-        Choice::Idle => words(out, at, b"- -"),
-        Choice::Runs(task, due) => two(out, at, task as u64, due.0),
-    }
-}
-
-fn kernel_call(out: &mut [u8; ROOM], at: usize, call: KernelCall) -> usize
-    ensures { Put out.old at (call_text call) out.new result }
-{
-    match call {
-        KernelCall::NoCall => byte(out, at, b'-'),
-        KernelCall::ActivateTask(task) => named(out, at, b'A', task),
-        KernelCall::ChainTask(task) => named(out, at, b'C', task),
-        KernelCall::TerminateTask => byte(out, at, b'T'),
-    }
-}
-
-// The tasks behind the first, each with a comma in front of it.
-fn more_tasks(out: &mut [u8; ROOM], at: usize, tasks: [u8; 32], n: usize) -> usize
-    requires { (1 ≤ n) × (n ≤ 32) }
-    ensures { Put out.old at (comma_tasks (drop 1 (take n tasks))) out.new result }
-{
-    let mut next = at;
-    let mut i = 1;
-    while i < n {
-        next = named(out, next, b',', tasks[i]);
-        i += 1;
-    }
-    next
-}
-
-// The newly late tasks joined by commas.
-fn late_tasks(out: &mut [u8; ROOM], at: usize, late: Late) -> usize
-    ensures { Put out.old at (late_text late) out.new result }
-{
-    if late.count == 0 {
-        return byte(out, at, b'-');
-    }
-    let tasks = late.tasks;
-    let next = number(out, at, tasks[0] as u64);
-    if 32 < late.count {
-        return more_tasks(out, next, tasks, 32);
-    }
-    more_tasks(out, next, tasks, late.count as usize)
-}
-
-// The lines that a table's answer names.
-fn lines_named(out: &mut [u8; ROOM], at: usize, lines: Named) -> usize
-    ensures { Put out.old at (named_text lines) out.new result }
-{
-    match lines {
-        Named::NoneNamed => words(out, at, b"- -"),
-        Named::TheLine(i) => {
-            let next = number(out, at, i as u64);
-            words(out, next, b" -")
+    pub fn new() -> Page
+        ensures { (result.bytes ≡ replicate ROOM 0) × (result.len ≡ 0) }
+    {
+        Page {
+            bytes: [0; ROOM],
+            len: 0,
         }
-        Named::BothLines(i, j) => two(out, at, i as u64, j as u64),
     }
-}
 
-// ---- lines without their newlines
-
-// What a call answered: its tick, result, running task, its deadline, kernel call, newly late tasks.
-pub fn answer(out: &mut [u8; ROOM], at: usize, tick: Tick, answer: Answer) -> usize
-    ensures { Put out.old at (answer_text tick answer) out.new result }
-{
-    let next = two(out, at, tick.0, answer.result as u64);
-    let next = byte(out, next, b' ');
-    let choice = answer.running;
-    let next = running(out, next, choice);
-    let next = byte(out, next, b' ');
-    let call = answer.call;
-    let next = kernel_call(out, next, call);
-    let next = byte(out, next, b' ');
-    let late = answer.late;
-    late_tasks(out, next, late)
-}
-
-// What the check answered: its number and the lines named.
-pub fn verdict(out: &mut [u8; ROOM], at: usize, verdict: Verdict) -> usize
-    ensures { Put out.old at (table_text verdict) out.new result }
-{
-    let next = words(out, at, b"table ");
-    let next = number(out, next, verdict.number as u64);
-    let next = byte(out, next, b' ');
-    let lines = verdict.lines;
-    lines_named(out, next, lines)
-}
-
-// ---- whole lines
-
-// A call's line.
-pub fn answer_line(out: &mut [u8; ROOM], at: usize, tick: Tick, told: Answer) -> usize
-    ensures { Put out.old at (ended (answer_text tick told)) out.new result }
-{
-    let next = answer(out, at, tick, told);
-    byte(out, next, b'\n')
-}
-
-// What stands above the lines of calls.
-pub fn header_line(out: &mut [u8; ROOM], at: usize) -> usize
-    ensures { Put out.old at (ended header_text) out.new result }
-{
-    words(out, at, b"tick res run due call late\n")
-}
-
-// A refused table's line.
-pub fn table_line(out: &mut [u8; ROOM], at: usize, refused: Verdict) -> usize
-    ensures { Put out.old at (ended (table_text refused)) out.new result }
-{
-    let next = verdict(out, at, refused);
-    byte(out, next, b'\n')
-}
-
-// A bad tape's line: the refusal's number and the place.
-pub fn tape_line(out: &mut [u8; ROOM], at: usize, refusal: u8, place: usize) -> usize
-    ensures { Put out.old at (ended (tape_text refusal place)) out.new result }
-{
-    let next = words(out, at, b"tape ");
-    let next = number(out, next, refusal as u64);
-    let next = words(out, next, b" at ");
-    let next = number(out, next, place as u64);
-    byte(out, next, b'\n')
-}
-
-// ---- out
-
-fn first_bytes(to: i32, out: &[u8], n: usize) -> bool {
-    if n <= out.len() {
-        return io::write_all(to, &out[0..n]);
+    // What is put next stands at the first byte again.
+    pub fn clear(&mut self)
+        ensures { (self.new.bytes ≡ self.old.bytes) × (self.new.len ≡ 0) }
+    {
+        self.len = 0;
     }
-    false
-}
 
-// The first bytes of the buffer go to a descriptor in one write. False where it doesn't take them all.
-pub fn send(to: i32, out: &[u8; ROOM], n: usize) -> bool {
-    first_bytes(to, out, n)
+    // ---- parts of a line
+
+    pub fn byte(&mut self, b: u8)
+        ensures { Put self.old.bytes self.old.len (b ∷ []) self.new.bytes self.new.len }
+    {
+        if self.len < ROOM {
+            self.bytes[self.len] = b;
+            self.len += 1;
+        }
+    }
+
+    pub fn words(&mut self, text: &[u8])
+        ensures { Put self.old.bytes self.old.len text.now self.new.bytes self.new.len }
+    {
+        for b in text {
+            self.byte(*b);
+        }
+    }
+
+    pub fn number(&mut self, n: u64)
+        ensures { Put self.old.bytes self.old.len (decimal n) self.new.bytes self.new.len }
+    {
+        let mut digits = [0u8; 20];
+        let k = io::decimal(n, &mut digits);
+        self.words(&digits[..k]);
+    }
+
+    // A letter and a task number.
+    #[tactic(auto, using(crate::proofs::Texts::then))]
+    fn named(&mut self, letter: u8, task: u8)
+        ensures { Put self.old.bytes self.old.len (letter ∷ decimal task) self.new.bytes self.new.len }
+    {
+        self.byte(letter);
+        self.number(task as u64);
+    }
+
+    // Two numbers with a space between them.
+    pub fn two(&mut self, x: u64, y: u64)
+        ensures { Put self.old.bytes self.old.len (spaced (decimal x ∷ decimal y ∷ [])) self.new.bytes self.new.len }
+    {
+        self.number(x);
+        self.byte(b' ');
+        self.number(y);
+    }
+
+    // The running task and its deadline.
+    pub fn running(&mut self, choice: Option<Running>)
+        ensures { Put self.old.bytes self.old.len (choice_text choice) self.new.bytes self.new.len }
+    {
+        match choice {
+            None => self.words(b"- -"),
+            Some(running) => self.two(running.task as u64, running.due.0),
+        }
+    }
+
+    fn kernel_call(&mut self, call: KernelCall)
+        ensures { Put self.old.bytes self.old.len (call_text call) self.new.bytes self.new.len }
+    {
+        match call {
+            KernelCall::NoCall => self.byte(b'-'),
+            KernelCall::ActivateTask(task) => self.named(b'A', task),
+            KernelCall::ChainTask(task) => self.named(b'C', task),
+            KernelCall::TerminateTask => self.byte(b'T'),
+        }
+    }
+
+    // Tasks, each with a comma in front of it.
+    fn more_tasks(&mut self, tasks: &[u8])
+        ensures { Put self.old.bytes self.old.len (comma_tasks tasks.now) self.new.bytes self.new.len }
+    {
+        for task in tasks {
+            self.named(b',', *task);
+        }
+    }
+
+    // The newly late tasks joined by commas.
+    fn late_tasks(&mut self, late: Late)
+        ensures { Put self.old.bytes self.old.len (late_text late) self.new.bytes self.new.len }
+    {
+        let count = (late.count as usize).min(PLACES);
+        let [first, more @ ..] = &late.tasks[..count] else {
+            return self.byte(b'-');
+        };
+        self.number(*first as u64);
+        self.more_tasks(more);
+    }
+
+    // The lines that a table's answer names.
+    fn lines_named(&mut self, lines: Named)
+        ensures { Put self.old.bytes self.old.len (named_text lines) self.new.bytes self.new.len }
+    {
+        match lines {
+            Named::NoneNamed => self.words(b"- -"),
+            Named::TheLine(i) => {
+                self.number(i as u64);
+                self.words(b" -");
+            }
+            Named::BothLines(i, j) => self.two(i as u64, j as u64),
+        }
+    }
+
+    // ---- lines without their newlines
+
+    // What a call answered: its tick, result, running task, its deadline, kernel call, newly late tasks.
+    pub fn answer(&mut self, tick: Tick, answer: Answer)
+        ensures { Put self.old.bytes self.old.len (answer_text tick answer) self.new.bytes self.new.len }
+    {
+        self.two(tick.0, answer.result as u64);
+        self.byte(b' ');
+        self.running(answer.running);
+        self.byte(b' ');
+        self.kernel_call(answer.call);
+        self.byte(b' ');
+        self.late_tasks(answer.late);
+    }
+
+    // What the check answered: its number and the lines named.
+    pub fn verdict(&mut self, verdict: Verdict)
+        ensures { Put self.old.bytes self.old.len (table_text verdict) self.new.bytes self.new.len }
+    {
+        self.words(b"table ");
+        self.number(verdict.number as u64);
+        self.byte(b' ');
+        self.lines_named(verdict.lines);
+    }
+
+    // ---- whole lines
+
+    // A call's line.
+    pub fn answer_line(&mut self, tick: Tick, told: Answer)
+        ensures { Put self.old.bytes self.old.len (ended (answer_text tick told)) self.new.bytes self.new.len }
+    {
+        self.answer(tick, told);
+        self.byte(b'\n');
+    }
+
+    // What stands above the lines of calls.
+    pub fn header_line(&mut self)
+        ensures { Put self.old.bytes self.old.len (ended header_text) self.new.bytes self.new.len }
+    {
+        self.words(b"tick res run due call late\n");
+    }
+
+    // A refused table's line.
+    pub fn table_line(&mut self, refused: Verdict)
+        ensures { Put self.old.bytes self.old.len (ended (table_text refused)) self.new.bytes self.new.len }
+    {
+        self.verdict(refused);
+        self.byte(b'\n');
+    }
+
+    // A bad tape's line: the refusal's number and the place.
+    pub fn tape_line(&mut self, refusal: u8, place: usize)
+        ensures { Put self.old.bytes self.old.len (ended (tape_text refusal place)) self.new.bytes self.new.len }
+    {
+        self.words(b"tape ");
+        self.number(refusal as u64);
+        self.words(b" at ");
+        self.number(place as u64);
+        self.byte(b'\n');
+    }
+
+    // ---- out
+
+    // What is put goes to a descriptor in one write. False where it doesn't take it all.
+    pub fn send(&self, to: i32) -> bool {
+        match self.bytes.get(..self.len) {
+            Some(text) => io::write_all(to, text),
+            None => false,
+        }
+    }
 }

@@ -1,8 +1,8 @@
--- `print::answer` meets its contract. Assumes nothing.
+-- `print::Page::answer` meets its contract. Assumes nothing.
 use mathlib.Core.List.{◌∷◌, ◌++◌}
 use Rattle.rules.specs.Print.{decimal, spaced, run_text, due_text, call_text, late_text, answer_text}
 use Rattle.print.proofs.Texts.{then, as_text, pairs_spaced}
-use Rattle.print.proofs.answer.Goals as goal
+use Rattle.print.proofs.Page.answer.Goals as goal
 
 pub returns : goal.returns
 unfolding spaced answer_text
@@ -16,11 +16,11 @@ returns c =
     (due_text a.running)
     (call_text a.call ++ (32 ∷ late_text a.late)))
     (then
-    c.two-next.ensures
+    c.two.ensures
     (then
-    c.byte-next.ensures
+    c.byte.ensures
     (then
-    c.running-next.ensures
+    c.running.ensures
     (then
-    c.byte-next-2.ensures
-    (then c.kernel_call-next.ensures (then c.byte-next-3.ensures c.late_tasks.ensures))))))
+    c.byte-2.ensures
+    (then c.kernel_call.ensures (then c.byte-3.ensures c.late_tasks.ensures))))))

@@ -1,7 +1,7 @@
--- `print::number` meets its contract. Assumes nothing.
+-- `print::Page::number` meets its contract. Assumes nothing.
 use Rattle.print.proofs.Texts.{as_text, decimal_of}
 use mathlib.Core.Path.{◌∙◌}
-use Rattle.print.proofs.number.Goals as goal
+use Rattle.print.proofs.Page.number.Goals as goal
 
 pub returns : goal.returns
 returns c =

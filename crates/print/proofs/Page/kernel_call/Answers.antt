@@ -1,8 +1,8 @@
--- `print::kernel_call` meets its contract. Assumes nothing.
+-- `print::Page::kernel_call` meets its contract. Assumes nothing.
 use Rattle.print.proofs.Texts.{as_text}
 use Rattle.rules.specs.Print.{call_text}
 use mathlib.Core.Path.{sym, ap}
-use Rattle.print.proofs.kernel_call.Goals as goal
+use Rattle.print.proofs.Page.kernel_call.Goals as goal
 
 pub returns-in-NoCall : goal.returns-in-NoCall
 returns-in-NoCall c = as_text (sym (ap call_text c.in-NoCall.is)) c.byte.ensures
