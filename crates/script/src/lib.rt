@@ -1,82 +1,63 @@
 // Tables, calls and bytes read from text, so that a run says in words what is called.
 #![tactic(auto)]
 
-ghost use Rattle.std.specs.Prelude.{◌≤◌, length};
+ghost use Rattle.std.specs.Prelude.{◌≡◌, ◌+◌, ◌==◌, ◌<◌, ◌≤◌, [], ◌∷◌, ◌++◌, drop, length, min, take, MatchOption};
+ghost use Rattle.std.specs.Iterator.{at_most};
+ghost use Rattle.std.specs.List.{position};
+ghost use Rattle.script.specs.Texts.{IsFirstPart};
 
 use rules::{Call, Line, PLACES, Span, Tick};
 use table::TaskTable;
 
-// ---- numbers
+// ---- parts of a text
 
-// A number in a text, and the place behind it.
-#[derive(Clone, Copy)]
-pub struct Found {
-    pub value: u64,
-    pub next: usize,
+// The parts of a text, each up to the byte that ends it. Behind the last such byte stands a part only where there is something.
+#[derive(Drop)]
+pub struct Parts<'a> {
+    rest: &'a [u8],
+    end: u8,
 }
 
-fn is_digit(b: u8) -> bool {
-    if b < b'0' {
-        return false;
-    }
-    b <= b'9'
+pub fn split(text: &[u8], end: u8) -> Parts<'_>
+    ensures rest { result.rest.now ≡ text.now }
+    ensures end { result.end ≡ end }
+{
+    Parts { rest: text, end }
 }
 
-// A number with one more digit. From 18,446,744,073,709,551,610 on, numbers read as the greatest that 64 bits hold.
-fn with_digit(value: u64, b: u8) -> u64 {
-    if 1844674407370955160 < value {
-        return 18446744073709551615;
-    }
-    if b < b'0' {
-        return value * 10;
-    }
-    if b'9' < b {
-        return value * 10;
-    }
-    value * 10 + (b - b'0') as u64
-}
+impl<'a> Iterator for Parts<'a> {
+    type Item = &'a [u8];
 
-// The first place from here on that holds a digit; the text's end where none does.
-fn digit_from(text: &[u8], from: usize) -> usize {
-    let mut i = from;
-    while i < text.len() {
-        if is_digit(text[i]) {
-            return i;
+    ghost next_gives = { λ s r t. (t.end ≡ s.end) × MatchOption r (length s.rest.now ≡ 0) (λ x. (0 < length s.rest.now) × IsFirstPart s.end s.rest.now x.now t.rest.now) };
+
+    ghost remaining = { λ s. at_most (length s.rest.now) };
+
+    fn next(&mut self) -> Option<&'a [u8]> {
+        let rest = self.rest;
+        if rest.is_empty() {
+            return None;
         }
-        i += 1;
+        let (part, rest) = first_part(rest, self.end);
+        self.rest = rest;
+        Some(part)
     }
-    i
 }
 
-// The first number from here on; 0 where there is none.
-pub fn number(text: &[u8], from: usize) -> Found {
-    let mut i = digit_from(text, from);
-    let mut value: u64 = 0;
-    while i < text.len() {
-        let b = text[i];
-        if !is_digit(b) {
-            return Found { value, next: i };
-        }
-        value = with_digit(value, b);
-        i += 1;
-    }
-    Found { value, next: i }
+// The first place that holds this byte, if one does.
+fn place_of(text: &[u8], b: u8) -> Option<usize>
+    ensures { result ≡ position (λ x. x == b) text.now }
+{
+    text.iter().position(|x| *x == b)
 }
 
-// A number that is held in a byte; those above 255 read as 255.
-fn small(n: u64) -> u8 {
-    if 255 < n {
-        return 255;
+// What stands before the first such byte, all where there is none; and what stands behind it.
+fn first_part(text: &[u8], end: u8) -> (&[u8], &[u8])
+    ensures { IsFirstPart end text.now result.0.now result.1.now }
+{
+    match place_of(text, end) {
+        Some(n) => (&text[..n], behind(text, n + 1)),
+        None => (text, behind(text, text.len())),
     }
-    n as u8
-}
-
-// The byte at a place; 0 past the end.
-pub fn byte_at(text: &[u8], at: usize) -> u8 {
-    if at < text.len() {
-        return text[at];
-    }
-    0
 }
 
 // The first place from here on that holds this byte; the text's end where none does.
@@ -84,44 +65,87 @@ pub fn find(text: &[u8], from: usize, b: u8) -> usize
     requires { from ≤ length text.now }
     ensures { (from ≤ result) × (result ≤ length text.now) }
 {
-    let mut i = from;
-    while i < text.len() {
-        if text[i] == b {
-            return i;
-        }
-        i += 1;
+    match place_of(&text[from..], b) {
+        Some(n) => from + n,
+        None => text.len(),
     }
-    i
+}
+
+// What stands from a place on; nothing past the end.
+pub fn behind(text: &[u8], at: usize) -> &[u8]
+    ensures { result.now ≡ drop at text.now }
+{
+    &text[at.min(text.len())..]
+}
+
+// The byte at a place; 0 past the end.
+pub fn byte_at(text: &[u8], at: usize) -> u8 {
+    text.get(at).copied().unwrap_or(0)
+}
+
+// ---- numbers
+
+// A number with one more digit. From 18,446,744,073,709,551,610 on, numbers read as the greatest that 64 bits hold.
+fn with_digit(value: u64, digit: u8) -> u64
+    requires { digit ≤ 9 }
+{
+    if value < u64::MAX / 10 {
+        value * 10 + u64::from(digit)
+    } else {
+        u64::MAX
+    }
+}
+
+// What stands from the first digit on.
+fn digits(text: &[u8]) -> &[u8] {
+    let n = text.iter().position(|b| b.is_ascii_digit());
+    behind(text, n.unwrap_or(text.len()))
+}
+
+// The first number of a text, 0 where there is none; and what stands behind it.
+pub fn number(text: &[u8]) -> (u64, &[u8]) {
+    let text = digits(text);
+    let mut value = 0;
+    for (i, b) in text.iter().enumerate() {
+        match b {
+            b'0'..=b'9' => value = with_digit(value, *b - b'0'),
+            _ => return (value, &text[i..]),
+        }
+    }
+    (value, &text[text.len()..])
+}
+
+// A number that is held in a byte; those above 255 read as 255.
+fn small(n: u64) -> u8 {
+    u8::try_from(n).unwrap_or(u8::MAX)
 }
 
 // ---- calls
 
 // The letter that tells a call: its first one, or its second where that is a t.
-fn letter(text: &[u8], at: usize) -> u8 {
-    if at < text.len() {
-        if text[at] == b't' {
-            return byte_at(text, at + 1);
-        }
-    }
-    byte_at(text, at)
-}
-
-// 'activate 0 at 5', 'chain 0 at 5', 'terminate at 5', 'tick at 5': the call that starts here.
-pub fn call_at(text: &[u8], from: usize) -> Call {
-    let first = number(text, from);
-    let second = number(text, first.next);
-    match letter(text, from) {
-        b'a' => Call::Activate(Tick(second.value), small(first.value)),
-        b'c' => Call::Chain(Tick(second.value), small(first.value)),
-        b'e' => Call::Terminate(Tick(first.value)),
-        _ => Call::Wait(Tick(first.value)),
+fn letter(text: &[u8]) -> u8 {
+    match text {
+        [b't', second, ..] => *second,
+        [first, ..] => *first,
+        [] => 0,
     }
 }
 
-// 'why 2': the task that is named from here on.
-pub fn task_at(text: &[u8], from: usize) -> u8 {
-    let named = number(text, from);
-    small(named.value)
+// 'activate 0 at 5', 'chain 0 at 5', 'terminate at 5', 'tick at 5': the call that a text starts with.
+pub fn call_of(text: &[u8]) -> Call {
+    let (first, rest) = number(text);
+    let (second, _) = number(rest);
+    match letter(text) {
+        b'a' => Call::Activate(Tick(second), small(first)),
+        b'c' => Call::Chain(Tick(second), small(first)),
+        b'e' => Call::Terminate(Tick(first)),
+        _ => Call::Wait(Tick(first)),
+    }
+}
+
+// 'why 2': the task that a text names.
+pub fn task_of(text: &[u8]) -> u8 {
+    small(number(text).0)
 }
 
 // ---- tables
@@ -136,56 +160,45 @@ pub struct Lines {
     pub count: usize,
 }
 
+impl Lines {
+    // One more line; from 256 lines on nothing changes.
+    fn push(&mut self, line: Line) {
+        if self.count <= MOST {
+            if self.count < MOST {
+                self.lines[self.count] = line;
+            }
+            self.count += 1;
+        }
+    }
+
+    // '3 12 2': a line by its D, priority and limit; '32x 3 12 2': 32 such lines; words with no number behind them: none.
+    fn entry(&mut self, text: &[u8]) {
+        let text = digits(text);
+        if text.is_empty() {
+            return;
+        }
+        let (times, rest) = number(text);
+        match rest {
+            [b'x', ..] => {
+                for _ in 0..times {
+                    self.push(line_of(rest));
+                }
+            }
+            _ => self.push(line_of(text)),
+        }
+    }
+}
+
 // D, priority and limit of a line.
-fn line_at(text: &[u8], from: usize) -> Line {
-    let d = number(text, from);
-    let p = number(text, d.next);
-    let l = number(text, p.next);
+fn line_of(text: &[u8]) -> Line {
+    let (deadline, rest) = number(text);
+    let (priority, rest) = number(rest);
+    let (limit, _) = number(rest);
     Line {
-        deadline: Span(d.value),
-        priority: small(p.value),
-        limit: small(l.value),
+        deadline: Span(deadline),
+        priority: small(priority),
+        limit: small(limit),
     }
-}
-
-// One more line; from 256 lines on nothing changes.
-fn with_line(told: Lines, line: Line) -> Lines {
-    let n = told.count;
-    if MOST < n {
-        return told;
-    }
-    let mut lines = told.lines;
-    if n < MOST {
-        lines[n] = line;
-    }
-    Lines {
-        lines,
-        count: n + 1,
-    }
-}
-
-// A line some times over.
-fn with_lines(told: Lines, line: Line, times: u64) -> Lines {
-    let mut out = told;
-    let mut i: u64 = 0;
-    while i < times {
-        out = with_line(out, line);
-        i += 1;
-    }
-    out
-}
-
-// '3 12 2': a line by its D, priority and limit; '32x 3 12 2': 32 such lines; words with no number behind them: none.
-fn with_entry(told: Lines, text: &[u8], from: usize) -> Lines {
-    if text.len() <= digit_from(text, from) {
-        return told;
-    }
-    let n = number(text, from);
-    let next = n.next;
-    if byte_at(text, next) == b'x' {
-        return with_lines(told, line_at(text, next), n.value);
-    }
-    with_line(told, line_at(text, from))
 }
 
 fn no_line() -> Line {
@@ -196,16 +209,16 @@ fn no_line() -> Line {
     }
 }
 
-// The lines of a text, with commas between them.
+// The lines of a text, with commas between them. Numbers that an entry lacks are those of the next.
 pub fn lines_of(text: &[u8]) -> Lines {
     let mut told = Lines {
         lines: [no_line(); MOST],
         count: 0,
     };
-    let mut i = 0;
-    while i < text.len() {
-        told = with_entry(told, text, i);
-        i = find(text, i, b',') + 1;
+    let mut rest = text;
+    while !rest.is_empty() {
+        told.entry(rest);
+        rest = first_part(rest, b',').1;
     }
     told
 }
@@ -213,13 +226,8 @@ pub fn lines_of(text: &[u8]) -> Lines {
 // The lines of a text as a table: the first 32, and how many there are.
 pub fn table_of(text: &[u8]) -> TaskTable {
     let told = lines_of(text);
-    let given = told.lines;
     let mut lines = [no_line(); PLACES];
-    let mut i = 0;
-    while i < PLACES {
-        lines[i] = given[i];
-        i += 1;
-    }
+    lines.copy_from_slice(&told.lines[..PLACES]);
     TaskTable {
         lines,
         count: told.count,
@@ -231,7 +239,67 @@ pub fn table_of(text: &[u8]) -> TaskTable {
 // How many bytes a tape or a buffer of a run has at most.
 pub const ROOM: usize = 65537;
 
-// What a hexadecimal digit stands for.
+// Bytes put one behind the other, as far as there is room.
+#[derive(Drop)]
+pub struct Room<const N: usize> {
+    pub bytes: [u8; N],
+    pub len: usize,
+    ghost in_range: { len ≤ N },
+}
+
+impl<const N: usize> Room<N> {
+    pub fn new() -> Self
+        ensures { result.len ≡ 0 }
+    {
+        Room {
+            bytes: [0; N],
+            len: 0,
+        }
+    }
+
+    pub fn as_slice(&self) -> &[u8]
+        ensures { result.now ≡ take self.now.len self.now.bytes }
+    {
+        &self.bytes[..self.len]
+    }
+
+    pub fn push(&mut self, b: u8)
+        ensures bytes { take self.new.len self.new.bytes ≡ take N (take self.old.len self.old.bytes ++ b ∷ []) }
+        ensures len { self.new.len ≡ min (self.old.len + 1) N }
+    {
+        if self.len < N {
+            self.bytes[self.len] = b;
+            self.len += 1;
+        }
+    }
+
+    // 'EE', '12*EE': the byte that a word ends in. A word of one letter is no byte.
+    fn word(&mut self, word: &[u8])
+        ensures { self.old.len ≤ self.new.len }
+    {
+        if let [.., high, low] = word {
+            let b = hex_digit(*high) * 16 + hex_digit(*low);
+            for _ in 0..times(word).min(N as u64) {
+                self.push(b);
+            }
+        }
+    }
+
+    // The bytes of the words that begin in a part of a text, with spaces between them.
+    pub fn words(&mut self, text: &[u8], from: usize, to: usize)
+        requires { to ≤ length text.now }
+        ensures { self.old.len ≤ self.new.len }
+    {
+        if from < to {
+            let end = find(text, to - 1, b' ');
+            for word in split(&text[from..end], b' ') {
+                self.word(word);
+            }
+        }
+    }
+}
+
+// What a hexadecimal digit stands for. (Any other byte stands for something as well, so `char::to_digit` is none of it.)
 fn hex_digit(b: u8) -> u8
     ensures { result ≤ 15 }
 {
@@ -239,50 +307,10 @@ fn hex_digit(b: u8) -> u8
 }
 
 // '12*EE': how often; once where it is not said.
-fn times(text: &[u8]) -> u64 {
-    let star = find(text, 0, b'*');
-    if star == text.len() {
-        return 1;
+fn times(word: &[u8]) -> u64 {
+    if word.contains(&b'*') {
+        number(word).0
+    } else {
+        1
     }
-    let found = number(text, 0);
-    found.value
-}
-
-// 'EE', '12*EE': puts the byte that a word ends in, as far as there is room. A word of one letter is no byte. Gives the place behind.
-fn put(text: &[u8], room: &mut [u8; ROOM], at: usize) -> usize
-    requires { at ≤ 65537 }
-    ensures { (at ≤ result) × (result ≤ 65537) }
-{
-    let k = text.len();
-    if k < 2 {
-        return at;
-    }
-    let b = hex_digit(text[k - 2]) * 16 + hex_digit(text[k - 1]);
-    let more = times(text);
-    let mut n = at;
-    let mut i: u64 = 0;
-    while i < more {
-        if ROOM <= n {
-            return n;
-        }
-        room[n] = b;
-        n += 1;
-        i += 1;
-    }
-    n
-}
-
-// The bytes of a part of a text, from a place on, with spaces between them. Gives the place behind.
-pub fn bytes_of(text: &[u8], from: usize, to: usize, room: &mut [u8; ROOM], at: usize) -> usize
-    requires { (to ≤ length text.now) × (at ≤ 65537) }
-    ensures { (at ≤ result) × (result ≤ 65537) }
-{
-    let mut n = at;
-    let mut i = from;
-    while i < to {
-        let end = find(text, i, b' ');
-        n = put(&text[i..end], room, n);
-        i = end + 1;
-    }
-    n
 }
