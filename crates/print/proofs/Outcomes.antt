@@ -1,10 +1,7 @@
 -- One outcome: any two that satisfy what the source of a public function ensures are equal, its lent page included. A field for each. Assumes nothing.
-use Prim.Native.Nat.{ℕ}
-use mathlib.Core.List.{List}
-use mathlib.Core.Path.{◌≡◌, refl}
+use mathlib.Core.Path.{refl}
 use Rattle.rules.proofs.Outcome.{OneStated, OneStatedWith, only}
-use Rattle.print.specs.declared.Page.{Page}
-use Rattle.print.specs.Buffers.{Put}
+use Rattle.print.proofs.Texts.{one_page}
 use Rattle.print.proofs.Page.new.Reads as new
 use Rattle.print.proofs.Page.clear.Reads as clear
 use Rattle.print.proofs.Page.byte.Reads as byte
@@ -33,10 +30,6 @@ pub record Outcomes : Type 0 where
   header_line : OneStatedWith header_line.Post (λ κs s. s.0.now)
   table_line : OneStatedWith table_line.Post (λ κs s. s.0.now)
   tape_line : OneStatedWith tape_line.Post (λ κs s. s.0.now)
-
--- a text put on a page leaves one page
-pub one_page : {old : List ℕ} {at : ℕ} {t : List ℕ} (p q : Page) → Put old at t p.bytes p.len → Put old at t q.bytes q.len → p ≡ q
-one_page p q x y = λ i. record { bytes = only x.is y.is i; len = only x.place y.place i }
 
 pub the_outcomes : Outcomes
 the_outcomes =

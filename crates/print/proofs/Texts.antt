@@ -13,6 +13,8 @@ use borrow.Author.Tests.{lt-ltb, le-ltb, leb-true, leb-false}
 use Rattle.io.specs.Digits.{last_digits, hex_digit_ascii, IsDigitCount}
 use Rattle.rules.specs.Print.{decimal_in, decimal, comma_tasks, tasks_text}
 use Rattle.rules.proofs.Lists.{sets_append}
+use Rattle.rules.proofs.Outcome.{only}
+use Rattle.print.specs.declared.Page.{Page}
 use Rattle.print.specs.Buffers.{fits_at, Put}
 
 -- ---- one text comma_tasks another
@@ -69,6 +71,10 @@ put_more text n l x y = as_text (rw (add-one, take-suc text n 0 l) refl) (then x
 -- all of a text
 pub put_all : {a b : List ℕ} {i j : ℕ} (text : List ℕ) (n : ℕ) → length text ≤ n → Put a i (take n text) b j → Put a i text b j
 put_all text n l x = as_text (take_all n text l) x
+
+-- a text put on a page leaves one page
+pub one_page : {old : List ℕ} {at : ℕ} {t : List ℕ} (p q : Page) → Put old at t p.bytes p.len → Put old at t q.bytes q.len → p ≡ q
+one_page p q x y = λ i. record { bytes = only x.is y.is i; len = only x.place y.place i }
 
 -- ---- numbers
 

@@ -1,5 +1,7 @@
--- One outcome: any two that satisfy what the source of a public function ensures are equal, its lent buffer included. A field for each. Assumes nothing.
-use Rattle.rules.proofs.Outcome.{OneStatedWith, only}
+-- One outcome: any two that satisfy what the source of a public function ensures are equal, its lent page included. A field for each. Assumes nothing.
+use mathlib.Core.Path.{refl}
+use Rattle.rules.proofs.Outcome.{OneStatedWith}
+use Rattle.print.proofs.Texts.{one_page}
 use Rattle.show.proofs.tally.Reads as tally
 
 pub record Outcomes : Type 0 where
@@ -8,5 +10,5 @@ pub record Outcomes : Type 0 where
 pub the_outcomes : Outcomes
 the_outcomes =
     record {
-      tally = λ κs a r r' s s' p q. (only p.place q.place, only p.is q.is);
+      tally = λ κs a r r' s s' p q. (refl, one_page s.0.now s'.0.now p q);
     }

@@ -9,4 +9,4 @@ unfolding spaced tally_text
 returns c =
     let t = c.args.tally in
     as_text (pair_spaced (decimal t.late) (decimal t.ended) (decimal t.response))
-    (then c.two-next.ensures (then c.byte-next.ensures c.number.ensures))
+    (then c.two.ensures (then c.byte.ensures c.number.ensures))
