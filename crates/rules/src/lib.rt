@@ -13,12 +13,12 @@ pub struct Tick(pub u64);
 
 // A length of time. It is only ever added to a tick, never compared with one.
 #[repr(C)]
-#[derive(Clone, Copy)]
+#[derive(Clone, Copy, Default, PartialEq)]
 pub struct Span(pub u64);
 
 // A line of the task table. Its place from 0 is its task number.
 #[repr(C)]
-#[derive(Clone, Copy)]
+#[derive(Clone, Copy, Default, PartialEq)]
 pub struct Line {
     pub deadline: Span,
     pub priority: u8,
