@@ -1,18 +1,18 @@
 -- One outcome: any two that satisfy what the source of a public function ensures are equal. A field for each. Assumes nothing.
 use Rattle.rules.proofs.Outcome.{OneStated, only}
-use Rattle.jobs.proofs.empty.Reads as empty
+use Rattle.jobs.proofs.JobList.empty.Reads as empty
 use Rattle.jobs.proofs.is_earlier.Reads as is_earlier
-use Rattle.jobs.proofs.is_first.Reads as is_first
-use Rattle.jobs.proofs.insert.Reads as insert
-use Rattle.jobs.proofs.remove_first.Reads as remove_first
-use Rattle.jobs.proofs.replace_first.Reads as replace_first
-use Rattle.jobs.proofs.pending_from.Reads as pending_from
-use Rattle.jobs.proofs.first_of.Reads as first_of
-use Rattle.jobs.proofs.first.Reads as first
-use Rattle.jobs.proofs.front.Reads as front
+use Rattle.jobs.proofs.JobList.is_first.Reads as is_first
+use Rattle.jobs.proofs.JobList.insert.Reads as insert
+use Rattle.jobs.proofs.JobList.remove_first.Reads as remove_first
+use Rattle.jobs.proofs.JobList.replace_first.Reads as replace_first
+use Rattle.jobs.proofs.JobList.pending_from.Reads as pending_from
+use Rattle.jobs.proofs.JobList.first_of.Reads as first_of
+use Rattle.jobs.proofs.JobList.first.Reads as first
+use Rattle.jobs.proofs.JobList.front.Reads as front
 use Rattle.jobs.proofs.front_with.Reads as front_with
 use Rattle.jobs.proofs.none_late.Reads as none_late
-use Rattle.jobs.proofs.newly_late.Reads as newly_late
+use Rattle.jobs.proofs.JobList.newly_late.Reads as newly_late
 
 pub record Outcomes : Type 0 where
   empty : OneStated empty.Post

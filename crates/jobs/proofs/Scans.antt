@@ -1,16 +1,17 @@
 -- Loops that read a list from the front: a turn, and the end. Assumes nothing.
-use Prim.Native.Nat.{ℕ, zero, suc, ◌≤◌, ◌<◌}
-use mathlib.Core.Path.{◌≡◌, refl}
+use Prim.Native.Nat.{ℕ, zero, suc, ◌+◌, ◌≤◌, ◌<◌}
+use mathlib.Core.Path.{◌≡◌, refl, sym}
 use mathlib.Core.Bool.{Bool, true, false, cond}
 use mathlib.Core.List.{List, [], ◌∷◌}
 use native.Mathlib.Omega.{arith}
-use borrow.Author.Tests.{eq-eqb, ne_eqb}
 use lib.Dec.{eqb, eqb-suc-zero}
 use lib.ListN.{length, get_or, take, drop}
 use Rattle.rules.specs.declared.Job.{Job}
 use Rattle.rules.specs.Words.{only}
 use Rattle.jobs.specs.declared.JobList.{JobList}
 use Rattle.std.specs.Prelude.{Some, None}
+use Rattle.std.specs.List.{count_by, find}
+use Rattle.std.proofs.lemmas.List.Recursion.{is_count_by}
 use Rattle.jobs.specs.Listed.{blank_job, view, goes_before, is_first_in, insert_due, is_of, pending_of, first_in, lead_of, lead_with}
 
 -- ---- the first job
@@ -33,27 +34,23 @@ first_of_some j (suc n) (x ∷ xs) h = rw (eqb-suc-zero n)
 pub is_first_law : (l : JobList) (j : Job) → 0 < length l.jobs → cond (eqb l.count 0) true (goes_before j (get_or l.jobs 0 blank_job)) ≡ is_first_in j (view l)
 is_first_law l j h = first_of_some j l.count l.jobs h
 
--- ---- pending jobs of a task
+-- ---- jobs of a task, in std's words
 
-pub pending_here : (t : ℕ) (x : Job) (xs : List Job) → t ≡ x.task → pending_of t (x ∷ xs) ≡ suc (pending_of t xs)
+pub pending_law : (t : ℕ) (xs : List Job) → count_by (is_of t) xs ≡ pending_of t xs
 unfolding pending_of
-pending_here t x xs h = rw (eq-eqb t x.task h)
+pending_law t xs = sym (is_count_by (pending_of t) (is_of t) refl (λ x l. go (is_of t x) (pending_of t l)) xs)
+  where
+    go : (b : Bool) (n : ℕ) → cond b (suc n) n ≡ cond b (1 + n) n
+    go true n = omega arith
+    go false n = refl
 
-pub pending_next : (t : ℕ) (x : Job) (xs : List Job) → (t ≡ x.task → ⊥) → pending_of t (x ∷ xs) ≡ pending_of t xs
-unfolding pending_of
-pending_next t x xs h = rw (ne_eqb t x.task h)
-
-pub pending_none : (t : ℕ) → pending_of t [] ≡ 0
-unfolding pending_of
-pending_none t = refl
-
--- ---- the first job of a task
-
-pub own_here : (t : ℕ) (x : Job) (xs : List Job) → t ≡ x.task → lead_of (only (is_of t) (x ∷ xs)) ≡ Some x
-own_here t x xs h = rw (eq-eqb t x.task h) refl
-
-pub own_next : (t : ℕ) (x : Job) (xs : List Job) → (t ≡ x.task → ⊥) → lead_of (only (is_of t) (x ∷ xs)) ≡ lead_of (only (is_of t) xs)
-own_next t x xs h = rw (ne_eqb t x.task h) refl
+pub own_law : (t : ℕ) (xs : List Job) → find (is_of t) xs ≡ lead_of (only (is_of t) xs)
+own_law t [] = refl
+own_law t (x ∷ xs) = go (is_of t x) (own_law t xs)
+  where
+    go : (b : Bool) → find (is_of t) xs ≡ lead_of (only (is_of t) xs) → cond b (Some x) (find (is_of t) xs) ≡ lead_of (cond b (x ∷ only (is_of t) xs) (only (is_of t) xs))
+    go true ih = refl
+    go false ih = ih
 
 -- ---- the job that leads
 

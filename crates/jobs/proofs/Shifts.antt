@@ -94,17 +94,18 @@ enter_end xs out j n i h m s t e =
     ∙ ap (λ k. (take k ys ++ j ∷ drop k ys) ++ r) (e ∙ same_place goes_before orders j ys s)
     ∙ ap (λ (l : List Job). l ++ r) (sym (insert_at goes_before j ys))
 
--- ---- the first job leaves: turns of `left` and `replaced`
+-- ---- the first job leaves: turns of `slid`
 
-pub slide_step : (stop : Job → Bool) (out : List Job) (j : Job) (n i : ℕ) → i + 1 < n → n ≤ length out → stop (get_or out (i + 1) blank_job) ≡ false
-    → slide_at stop n j (i + 1) (set out i (get_or out (i + 1) blank_job)) ≡ slide_at stop n j i out
+pub slide_step : (stop : Job → Bool) (out : List Job) (j : Job) (n i k : ℕ) → i + 1 ≡ k → k < n → n ≤ length out → stop (get_or out k blank_job) ≡ false
+    → slide_at stop n j k (set out i (get_or out k blank_job)) ≡ slide_at stop n j i out
 unfolding slide_at slide
-slide_step stop out j n i h m e =
+slide_step stop out j n i k p h m e =
+    let q : k ≡ suc i = omega arith in
     let f : n - suc i ≡ suc (n - suc (suc i)) = omega arith in
-    let k : i < length out = omega arith in
+    let l : i < length out = omega arith in
     let g : suc i < length out = omega arith in
-    let w : stop (get_or out (suc i) blank_job) ≡ false = rw add-one at e in
-    rw (add-one, add-one, f, take-suc-set out i (get_or out (suc i) blank_job) k, drop-set-lt (suc i) out i (get_or out (suc i) blank_job) (omega arith), drop-cons out i blank_job k, drop-cons out (suc i) blank_job g, w)
+    let w : stop (get_or out (suc i) blank_job) ≡ false = rw q at e in
+    rw (q, add-one, add-one, f, take-suc-set out i (get_or out (suc i) blank_job) l, drop-set-lt (suc i) out i (get_or out (suc i) blank_job) (omega arith), drop-cons out i blank_job l, drop-cons out (suc i) blank_job g, w)
     (append_snoc (take i out) (get_or out (suc i) blank_job) _)
 
 -- at the last place, and at one that stops it
@@ -114,14 +115,15 @@ slide_end stop out j n i h m =
     let f : n - (i + 1) ≡ 0 = omega arith in
     rw (f, drop-cons out i blank_job h) (set_split out i j h)
 
-pub slide_stop : (stop : Job → Bool) (out : List Job) (j : Job) (n i : ℕ) → i + 1 < n → n ≤ length out → stop (get_or out (i + 1) blank_job) ≡ true → set out i j ≡ slide_at stop n j i out
+pub slide_stop : (stop : Job → Bool) (out : List Job) (j : Job) (n i k : ℕ) → i + 1 ≡ k → k < n → n ≤ length out → stop (get_or out k blank_job) ≡ true → set out i j ≡ slide_at stop n j i out
 unfolding slide_at slide
-slide_stop stop out j n i h m e =
+slide_stop stop out j n i k p h m e =
+    let q : k ≡ suc i = omega arith in
     let f : n - suc i ≡ suc (n - suc (suc i)) = omega arith in
-    let k : i < length out = omega arith in
+    let l : i < length out = omega arith in
     let g : suc i < length out = omega arith in
-    let w : stop (get_or out (suc i) blank_job) ≡ true = rw add-one at e in
-    set_split out i j k ∙ rw (add-one, f, drop-cons out i blank_job k, drop-cons out (suc i) blank_job g, w) refl
+    let w : stop (get_or out (suc i) blank_job) ≡ true = rw q at e in
+    set_split out i j l ∙ rw (add-one, f, drop-cons out i blank_job l, drop-cons out (suc i) blank_job g, w) refl
 
 -- the first of those that are left is released, if there is one
 pub leave_led : (n : ℕ) (j : Job) (xs : List Job) → 1 < n → led_if true (slide_at (λ (x : Job). false) n j 0 xs) ≡ leave_at n j xs

@@ -1,14 +1,16 @@
 // The list of pending jobs by value: an array of jobs in the order of the list, and a count.
 #![tactic(auto)]
 
-ghost use Rattle.std.specs.Prelude.{◌≡◌, [], true, cond, ◌≤◌, ◌<◌, take, drop};
+ghost use Rattle.std.specs.Prelude.{◌≡◌, [], Bool, true, cond, ◌≤◌, ◌<◌, take, drop};
+ghost use Rattle.std.specs.List.{count_by, find};
 ghost use Rattle.rules.specs.Words.{places, only};
+ghost use Rattle.rules.specs.declared.Job.{Job};
 ghost use Rattle.jobs.specs.Listed.{blank_job, is_earlier, goes_before, view, pack, Shaped, Sorted, is_first_in, insert_due, released_job, release_first, is_of, lead_of, lead_with, pending_of, first_in, late_in, newly_late_in};
-ghost use Rattle.jobs.specs.Inside.{aim_of, enter_at, leave_at, replace_at, late_step};
+ghost use Rattle.jobs.specs.Inside.{aim_of, enter_at, slide_at, leave_at, replace_at, late_step};
 
 use rules::{Job, Late, PLACES, Phase, Tick};
 
-// Places at and past the count hold a blank job.
+// Places at and past the count hold a blank job. That is no invariant of the type: `pack` lays any list out in one, also of more than 32 jobs, and theorems speak of any.
 #[derive(Clone, Copy)]
 pub struct JobList {
     pub jobs: [Job; PLACES],
@@ -22,20 +24,6 @@ fn blank() -> Job
         due: Tick(0),
         task: 0,
         phase: Phase::Delayed,
-    }
-}
-
-// A list of no jobs.
-pub fn empty() -> JobList
-    ensures { result ≡ pack [] }
-{
-    JobList {
-        jobs: [Job {
-            due: Tick(0),
-            task: 0,
-            phase: Phase::Delayed,
-        }; PLACES],
-        count: 0,
     }
 }
 
@@ -62,23 +50,6 @@ struct Aim {
     put: Job,
 }
 
-// A refused call works among no jobs, and puts the job in the first place where it stands.
-fn aimed(list: JobList, job: Job, accepted: bool) -> Aim
-    ensures { result ≡ aim_of list job accepted }
-{
-    if accepted {
-        return Aim {
-            many: list.count,
-            put: job,
-        };
-    }
-    let first = list.jobs[0];
-    Aim {
-        many: 0,
-        put: first,
-    }
-}
-
 // A new job walks in from the back: those that it goes before go one place back, up to the first that it doesn't go before. In a list that is in order that is its place.
 fn entered(jobs: [Job; PLACES], aim: Aim) -> [Job; PLACES]
     requires { (aim.many < places) × Sorted (take aim.many jobs) }
@@ -86,16 +57,16 @@ fn entered(jobs: [Job; PLACES], aim: Aim) -> [Job; PLACES]
 {
     let mut out = jobs;
     let job = aim.put;
-    let mut i = aim.many;
-    while 0 < i {
-        let other = out[i - 1];
+    let mut place = aim.many;
+    for i in (0..aim.many).rev() {
+        let other = out[i];
         if !goes_before(job, other) {
             break;
         }
-        out[i] = other;
-        i -= 1;
+        out[place] = other;
+        place = i;
     }
-    out[i] = job;
+    out[place] = job;
     out
 }
 
@@ -103,12 +74,29 @@ fn entered(jobs: [Job; PLACES], aim: Aim) -> [Job; PLACES]
 fn released(job: Job) -> Job
     ensures { result ≡ released_job job }
 {
-    let due = job.due;
     Job {
-        due,
-        task: job.task,
         phase: Phase::Released,
+        ..job
     }
+}
+
+// The first job leaves, and what is put in goes where the walk from the front stops: the others up to there go one place up.
+fn slid<F: Fn(Job) -> bool>(jobs: [Job; PLACES], aim: Aim, stops: F) -> [Job; PLACES]
+    requires { (aim.many ≤ places) × F.IsAlwaysCallable stops }
+    ensures { (stop : Job → Bool) → ((x : Job) (b : Bool) → F.post stops x b → b ≡ stop x) → result ≡ slide_at stop aim.many aim.put 0 jobs }
+{
+    let mut out = jobs;
+    let mut place = 0;
+    for i in 1..aim.many {
+        let next = out[i];
+        if stops(next) {
+            break;
+        }
+        out[place] = next;
+        place = i;
+    }
+    out[place] = aim.put;
+    out
 }
 
 // The first job leaves: the others go one place up, and the new first one is released.
@@ -116,19 +104,9 @@ fn left(jobs: [Job; PLACES], aim: Aim) -> [Job; PLACES]
     requires { aim.many ≤ places }
     ensures { result ≡ leave_at aim.many aim.put jobs }
 {
-    let mut out = jobs;
-    let n = aim.many;
-    let mut i = 0;
-    while i + 1 < n {
-        let next = out[i + 1];
-        out[i] = next;
-        i += 1;
-    }
-    let put = aim.put;
-    out[i] = put;
-    if 1 < n {
-        let first = out[0];
-        out[0] = released(first);
+    let mut out = slid(jobs, aim, |_| false);
+    if 1 < aim.many {
+        out[0] = released(out[0]);
     }
     out
 }
@@ -138,88 +116,195 @@ fn replaced(jobs: [Job; PLACES], aim: Aim) -> [Job; PLACES]
     requires { aim.many ≤ places }
     ensures { result ≡ replace_at aim.many aim.put jobs }
 {
-    let mut out = jobs;
-    let n = aim.many;
     let job = aim.put;
-    let mut i = 0;
-    while i + 1 < n {
-        let next = out[i + 1];
-        if goes_before(job, next) {
-            break;
-        }
-        out[i] = next;
-        i += 1;
-    }
-    out[i] = job;
-    if 0 < n {
-        let first = out[0];
-        out[0] = released(first);
+    let mut out = slid(jobs, aim, |next| goes_before(job, next));
+    if 0 < aim.many {
+        out[0] = released(out[0]);
     }
     out
 }
 
-// A new job goes in at its place. A refused call leaves the list as it is; so below.
-pub fn insert(list: JobList, job: Job, accepted: bool) -> JobList
-    requires { Shaped list × Sorted (view list) × (accepted ≡ true → list.count < places) }
-    ensures { result ≡ pack (cond accepted (insert_due job (view list)) (view list)) }
-{
-    let aim = aimed(list, job, accepted);
-    let jobs = list.jobs;
-    let n = list.count;
-    let count = if accepted { n + 1 } else { n };
-    JobList {
-        jobs: entered(jobs, aim),
-        count,
+impl JobList {
+    // A list of no jobs.
+    pub fn empty() -> JobList
+        ensures { result ≡ pack [] }
+    {
+        JobList {
+            jobs: [blank(); PLACES],
+            count: 0,
+        }
     }
-}
 
-// The first job leaves, and the new first one is released.
-pub fn remove_first(list: JobList, accepted: bool) -> JobList
-    requires { Shaped list × (accepted ≡ true → 0 < list.count) }
-    ensures { result ≡ pack (cond accepted (release_first (drop 1 (view list))) (view list)) }
-{
-    let aim = aimed(list, blank(), accepted);
-    let jobs = list.jobs;
-    let n = list.count;
-    let count = if accepted { n - 1 } else { n };
-    JobList {
-        jobs: left(jobs, aim),
-        count,
+    // A refused call works among no jobs, and puts the job in the first place where it stands.
+    fn aimed(&self, job: Job, accepted: bool) -> Aim
+        ensures { result ≡ aim_of self.now job accepted }
+    {
+        if accepted {
+            return Aim {
+                many: self.count,
+                put: job,
+            };
+        }
+        let first = self.jobs[0];
+        Aim {
+            many: 0,
+            put: first,
+        }
     }
-}
 
-// The first job leaves, a new one goes in at its place, and the new first one is released.
-pub fn replace_first(list: JobList, job: Job, accepted: bool) -> JobList
-    requires { Shaped list × (accepted ≡ true → 0 < list.count) }
-    ensures { result ≡ pack (cond accepted (release_first (insert_due job (drop 1 (view list)))) (view list)) }
-{
-    let aim = aimed(list, job, accepted);
-    let jobs = list.jobs;
-    JobList {
-        jobs: replaced(jobs, aim),
-        count: list.count,
+    // A new job goes in at its place. A refused call leaves the list as it is; so below.
+    pub fn insert(self, job: Job, accepted: bool) -> JobList
+        requires { Shaped self × Sorted (view self) × (accepted ≡ true → self.count < places) }
+        ensures { result ≡ pack (cond accepted (insert_due job (view self)) (view self)) }
+    {
+        let aim = self.aimed(job, accepted);
+        let n = self.count;
+        let count = if accepted { n + 1 } else { n };
+        JobList {
+            jobs: entered(self.jobs, aim),
+            count,
+        }
     }
-}
 
-// ---- what is asked of a list
+    // The first job leaves, and the new first one is released.
+    pub fn remove_first(self, accepted: bool) -> JobList
+        requires { Shaped self × (accepted ≡ true → 0 < self.count) }
+        ensures { result ≡ pack (cond accepted (release_first (drop 1 (view self))) (view self)) }
+    {
+        let aim = self.aimed(blank(), accepted);
+        let n = self.count;
+        let count = if accepted { n - 1 } else { n };
+        JobList {
+            jobs: left(self.jobs, aim),
+            count,
+        }
+    }
 
-// The job that leads; where the first job leaves, the one behind it.
-pub fn front(list: JobList, leaves: bool) -> Option<Job>
-    ensures { result ≡ lead_of (cond leaves (drop 1 (view list)) (view list)) }
-{
-    let n = list.count;
-    if leaves {
-        if n <= 1 {
+    // The first job leaves, a new one goes in at its place, and the new first one is released.
+    pub fn replace_first(self, job: Job, accepted: bool) -> JobList
+        requires { Shaped self × (accepted ≡ true → 0 < self.count) }
+        ensures { result ≡ pack (cond accepted (release_first (insert_due job (drop 1 (view self)))) (view self)) }
+    {
+        let aim = self.aimed(job, accepted);
+        JobList {
+            jobs: replaced(self.jobs, aim),
+            count: self.count,
+        }
+    }
+
+    // ---- what is asked of a list
+
+    // The jobs that are pending.
+    fn pending(&self) -> &[Job]
+        requires { self.now.count ≤ places }
+        ensures { result.now ≡ view self.now }
+    {
+        &self.jobs[..self.count]
+    }
+
+    // The job that leads; where the first job leaves, the one behind it.
+    pub fn front(&self, leaves: bool) -> Option<Job>
+        ensures { result ≡ lead_of (cond leaves (drop 1 (view self.now)) (view self.now)) }
+    {
+        let n = self.count;
+        if leaves {
+            if n <= 1 {
+                return None;
+            }
+            let job = self.jobs[1];
+            return Some(job);
+        }
+        if n == 0 {
             return None;
         }
-        let job = list.jobs[1];
-        return Some(job);
+        let job = self.jobs[0];
+        Some(job)
     }
-    if n == 0 {
-        return None;
+
+    // Whether a new job would be first.
+    pub fn is_first(&self, job: Job) -> bool
+        ensures { result ≡ is_first_in job (view self.now) }
+    {
+        if self.count == 0 {
+            return true;
+        }
+        let other = self.jobs[0];
+        goes_before(job, other)
     }
-    let job = list.jobs[0];
-    Some(job)
+
+    // How many jobs of a task are pending from a place on.
+    pub fn pending_from(&self, start: usize, task: u8) -> usize
+        requires { Shaped self.now }
+        ensures { result ≡ pending_of task (drop start (view self.now)) }
+    {
+        count_of(self.pending(), start, task)
+    }
+
+    // The first job of a task.
+    pub fn first_of(&self, task: u8) -> Option<Job>
+        requires { Shaped self.now }
+        ensures { result ≡ lead_of (only (is_of task) (view self.now)) }
+    {
+        find_of(self.pending(), task)
+    }
+
+    // The first job; a blank one where there is none.
+    pub fn first(&self) -> Job
+        ensures { result ≡ first_in (view self.now) }
+    {
+        if self.count == 0 {
+            return blank();
+        }
+        self.jobs[0]
+    }
+
+    // The newly late jobs, by a scan that stops at the first job that is not late: behind it none is.
+    fn late_from(&self, last: Tick, at: Tick) -> Late
+        requires { Shaped self.now × Sorted (view self.now) }
+        ensures { result ≡ newly_late_in last at (view self.now) }
+    {
+        let mut late = none_late();
+        for job in self.pending() {
+            if !ticks::is_past(at, job.due) {
+                break;
+            }
+            late = late_step(last, late, *job);
+        }
+        late
+    }
+
+    // The newly late jobs, in list order: late at this tick and not at the last one. Where the first job is not late there is no scan.
+    pub fn newly_late(&self, last: Tick, at: Tick) -> Late
+        requires { Shaped self.now × Sorted (view self.now) }
+        ensures { result ≡ newly_late_in last at (view self.now) }
+    {
+        if self.count == 0 {
+            return none_late();
+        }
+        let job = self.jobs[0];
+        let due = job.due;
+        if ticks::is_past(at, due) {
+            return self.late_from(last, at);
+        }
+        none_late()
+    }
+}
+
+// How many of these jobs, from a place on, are of a task.
+fn count_of(jobs: &[Job], start: usize, task: u8) -> usize
+    ensures { result ≡ count_by (is_of task) (drop start jobs.now) }
+{
+    jobs.iter()
+        .skip(start)
+        .filter(|job| task == job.task)
+        .count()
+}
+
+// The first of these jobs that is of a task.
+fn find_of(jobs: &[Job], task: u8) -> Option<Job>
+    ensures { result ≡ find (is_of task) jobs.now }
+{
+    jobs.iter().copied().find(|job| task == job.task)
 }
 
 // The job that leads where a new one enters.
@@ -240,60 +325,14 @@ pub fn front_with(lead: Option<Job>, job: Job, enters: bool) -> Option<Job>
     }
 }
 
-// Whether a new job would be first.
-pub fn is_first(list: JobList, job: Job) -> bool
-    ensures { result ≡ is_first_in job (view list) }
+// No late jobs.
+pub fn none_late() -> Late
+    ensures { result ≡ late_in [] }
 {
-    if list.count == 0 {
-        return true;
+    Late {
+        count: 0,
+        tasks: [0u8; PLACES],
     }
-    let other = list.jobs[0];
-    goes_before(job, other)
-}
-
-// How many jobs of a task are pending from a place on.
-pub fn pending_from(list: JobList, start: usize, task: u8) -> usize
-    requires { Shaped list }
-    ensures { result ≡ pending_of task (drop start (view list)) }
-{
-    let n = list.count;
-    let mut found: usize = 0;
-    let mut i = start;
-    while i < n {
-        let job = list.jobs[i];
-        if task == job.task {
-            found += 1;
-        }
-        i += 1;
-    }
-    found
-}
-
-// The first job of a task.
-pub fn first_of(list: JobList, task: u8) -> Option<Job>
-    requires { Shaped list }
-    ensures { result ≡ lead_of (only (is_of task) (view list)) }
-{
-    let n = list.count;
-    let mut i = 0;
-    while i < n {
-        let job = list.jobs[i];
-        if job.task == task {
-            return Some(job);
-        }
-        i += 1;
-    }
-    None
-}
-
-// The first job; a blank one where there is none.
-pub fn first(list: JobList) -> Job
-    ensures { result ≡ first_in (view list) }
-{
-    if list.count == 0 {
-        return blank();
-    }
-    list.jobs[0]
 }
 
 // A late job: its task goes behind those so far, unless it was late at the last call.
@@ -312,51 +351,4 @@ fn late_step(last: Tick, late: Late, job: Job) -> Late
         count: late.count + 1,
         tasks,
     }
-}
-
-// No late jobs.
-pub fn none_late() -> Late
-    ensures { result ≡ late_in [] }
-{
-    Late {
-        count: 0,
-        tasks: [0u8; PLACES],
-    }
-}
-
-// The newly late jobs, by a scan that stops at the first job that is not late: behind it none is.
-fn late_from(list: JobList, last: Tick, at: Tick) -> Late
-    requires { Shaped list × Sorted (view list) }
-    ensures { result ≡ newly_late_in last at (view list) }
-{
-    let n = list.count;
-    let mut late = none_late();
-    let mut i = 0;
-    while i < n {
-        let job = list.jobs[i];
-        let due = job.due;
-        if ticks::is_past(at, due) {
-            late = late_step(last, late, job);
-            i += 1;
-        } else {
-            return late;
-        }
-    }
-    late
-}
-
-// The newly late jobs, in list order: late at this tick and not at the last one. Where the first job is not late there is no scan.
-pub fn newly_late(list: JobList, last: Tick, at: Tick) -> Late
-    requires { Shaped list × Sorted (view list) }
-    ensures { result ≡ newly_late_in last at (view list) }
-{
-    if list.count == 0 {
-        return none_late();
-    }
-    let job = list.jobs[0];
-    let due = job.due;
-    if ticks::is_past(at, due) {
-        return late_from(list, last, at);
-    }
-    none_late()
 }

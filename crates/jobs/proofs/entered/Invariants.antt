@@ -7,7 +7,5 @@ use Rattle.jobs.proofs.Shifts.{Entering}
 use Rattle.jobs.proofs.entered.Given as goal
 
 abbrev pub invariant-loop-i : goal.invariant-loop-i
-invariant-loop-i l = (l.i ≤ l.initial.i) × (l.initial.i < places) × (length l.initial.out ≡ places) × (length l.out ≡ places) × Entering l.initial.out l.job l.initial.i l.out l.i
-
-abbrev pub decreases-loop-i : goal.decreases-loop-i
-decreases-loop-i l = l.i
+invariant-loop-i l =
+    record { here : l.place ≡ l.i; most : l.i ≤ l.initial.i; many : l.initial.i < places; all : length l.initial.out ≡ places; kept : length l.out ≡ places; turns : Entering l.initial.out l.job l.initial.i l.out l.i }
