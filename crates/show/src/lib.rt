@@ -44,3 +44,28 @@ pub fn header() -> bool {
     page.header_line();
     page.send(STDOUT_FILENO)
 }
+
+// ---- parts of a line, sent as they are
+
+pub fn put(text: &[u8]) -> bool {
+    io::write_all(STDOUT_FILENO, text)
+}
+
+// How many bytes of a buffer are shown at most.
+const MOST_SHOWN: usize = 40;
+
+// A byte in hexadecimal, with a space in front.
+fn hex(b: u8) {
+    let digits = b"0123456789ABCDEF";
+    put(&[b' ', digits[b as usize / 16], digits[b as usize % 16]]);
+}
+
+// What a buffer holds: its first bytes.
+pub fn bytes(bytes: &[u8]) {
+    for b in bytes.iter().take(MOST_SHOWN) {
+        hex(*b);
+    }
+    if MOST_SHOWN < bytes.len() {
+        put(b" ..");
+    }
+}
