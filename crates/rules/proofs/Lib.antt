@@ -36,5 +36,6 @@ pub mod Places
 pub mod Counted
 pub mod Reasons
 pub mod Searched
+pub mod Taking
 pub mod Cases
 pub mod Claims
