@@ -1,5 +1,5 @@
 -- Document 01, "The program and one whole run": what the program prints for a tape, from bytes to bytes. Assumes nothing.
-use Rattle.std.specs.Prelude.{ℕ, zero, suc, ◌+◌, ◌/◌, ◌%◌, Bool, false, cond, List, [], ◌∷◌, ◌++◌, length, take, ltb, eqb, Some, None, Ok, Err}
+use Rattle.std.specs.Prelude.{ℕ, zero, suc, ◌+◌, ◌/◌, ◌%◌, Bool, false, cond, List, [], ◌∷◌, ◌++◌, length, take, ltb, eqb, Some, None, Result, Ok, Err}
 use Prim.Native.Char.{code}
 use Prim.Native.String.{String, len, char_at}
 use Rattle.rules.specs.declared.Tick.{Tick}
@@ -11,9 +11,11 @@ use Rattle.rules.specs.declared.Answer.{Answer}
 use Rattle.rules.specs.declared.Named.{Named}
 use Rattle.rules.specs.declared.Named.TheVariants.{NoneNamed, TheLine, BothLines}
 use Rattle.rules.specs.declared.Verdict.{Verdict}
-use Rattle.rules.specs.declared.Opening.{Opening}
-use Rattle.rules.specs.declared.Opening.TheVariants.{Accepted, BadTable, BadTape}
+use Rattle.rules.specs.declared.Taken.{Taken}
+use Rattle.rules.specs.declared.TapeRefusal.{TapeRefusal}
 use Rattle.rules.specs.declared.TapeRefusal.TheVariants.{TooLong}
+use Rattle.rules.specs.declared.Unopened.{Unopened}
+use Rattle.rules.specs.declared.Unopened.TheVariants.{BadTable, BadTape}
 use Rattle.rules.specs.Words.{places}
 use Rattle.rules.specs.Table.{Table, verdict, check}
 use Rattle.rules.specs.Answers.{Choice}
@@ -131,28 +133,26 @@ records_text T b rs = calls_text T b rs.calls ++ stop_text rs.stop
 
 -- ---- how a tape opens
 
--- the answer; where it is Accepted, the table and the place of the first record
-pub record Opened : Type 0 where
-  pub answer : Opening
-  pub table : Table
-  pub first : ℕ
+-- the table and the place of the first record, where the table is accepted
+abbrev pub Opened : Type 0
+Opened = Result (Taken Table) Unopened
 
--- nothing to run
-abbrev pub unopened : Opening → Opened
-unopened a = record { answer = a; table = record { lines = [] }; first = 0 }
+-- the tape is bad
+abbrev pub bad_tape : TapeRefusal → ℕ → Opened
+bad_tape k p = Err (BadTape (record { refusal = k; place = p }))
 
 -- how many bytes a tape has at most
 abbrev pub longest : ℕ
 longest = 65536
 
 -- the check's answer
-abbrev pub checked_as : Table → ℕ → Opened
-checked_as T p = cond (eqb (check T).number 0) (record { answer = Accepted; table = T; first = p }) (unopened (BadTable (check T)))
+abbrev pub checked_as : Taken Table → Opened
+checked_as t = cond (eqb (check t.value).number 0) (Ok t) (Err (BadTable (check t.value)))
 
 -- the place is 0 for the table
 abbrev pub table_opened : Read Table → Opened
-table_opened (Ok t) = checked_as t.value t.next
-table_opened (Err k) = unopened (BadTape (tape_number k) 0)
+table_opened (Ok t) = checked_as t
+table_opened (Err k) = bad_tape k 0
 
 -- a count above 32
 abbrev pub count_above : Read ℕ → Bool
@@ -162,26 +162,29 @@ count_above (Err k) = false
 -- 26 goes before everything, at the first byte too many; a count above 32 is refused as table 1 as soon as it is read
 unfoldable pub opening : List ℕ → Opened
 opening tape =
-    cond (ltb longest (length tape)) (unopened (BadTape (tape_number TooLong) longest))
-    (cond (count_above (bounded_at greatest_byte tape 0)) (unopened (BadTable (verdict 1 NoneNamed)))
+    cond (ltb longest (length tape)) (bad_tape TooLong longest)
+    (cond (count_above (bounded_at greatest_byte tape 0)) (Err (BadTable (verdict 1 NoneNamed)))
     (table_opened (table_at tape)))
 
 -- ---- the whole print
 
--- the header once the table is accepted; otherwise the one line only
-abbrev pub opening_text : Opening → List ℕ
-opening_text Accepted = ended header_text
-opening_text (BadTable v) = ended (table_text v)
-opening_text (BadTape n p) = ended (tape_text n p)
+-- of a refused table or a bad tape the one line only
+abbrev pub unopened_text : Unopened → List ℕ
+unopened_text (BadTable v) = ended (table_text v)
+unopened_text (BadTape h) = ended (tape_text (tape_number h.refusal) h.place)
+
+-- the header once the table is accepted
+abbrev pub opening_text : {A : Type 0} → Result A Unopened → List ℕ
+opening_text (Ok t) = ended header_text
+opening_text (Err u) = unopened_text u
 
 -- and what stands behind it: the records of an accepted table
-abbrev pub behind_text : Opening → List ℕ → List ℕ
-behind_text Accepted records = records
-behind_text (BadTable v) records = []
-behind_text (BadTape n p) records = []
+abbrev pub behind_text : {A : Type 0} → Result A Unopened → (A → List ℕ) → List ℕ
+behind_text (Ok t) records = records t
+behind_text (Err u) records = []
 
 abbrev pub opened_text : List ℕ → Opened → List ℕ
-opened_text tape o = opening_text o.answer ++ behind_text o.answer (records_text o.table fresh (records_at tape o.first zero_tick))
+opened_text tape o = opening_text o ++ behind_text o (λ (t : Taken Table). records_text t.value fresh (records_at tape t.next zero_tick))
 
 unfoldable pub transcript : List ℕ → List ℕ
 transcript tape = opened_text tape (opening tape)

@@ -1,7 +1,7 @@
 -- Q-1, the program tape_why: a tape is run as document 01 runs it, with no print on the way; then a line says of each task why it waits. Assumes nothing.
 use Rattle.std.specs.Prelude.{ℕ, zero, suc, List, [], ◌∷◌, ◌++◌, Result, Ok, Err}
-use Rattle.rules.specs.declared.Opening.{Opening}
-use Rattle.rules.specs.declared.Opening.TheVariants.{Accepted, BadTable, BadTape}
+use Rattle.rules.specs.declared.Taken.{Taken}
+use Rattle.rules.specs.declared.Unopened.{Unopened}
 use Rattle.rules.specs.declared.Reason.{Reason}
 use Rattle.rules.specs.declared.Reason.TheVariants.{NonePending, ItRuns, Earlier, ThereFirst}
 use Rattle.rules.specs.declared.CallRefusal.{CallRefusal}
@@ -10,7 +10,7 @@ use Rattle.rules.specs.Answers.{call_number}
 use Rattle.rules.specs.Layer.{Board, fresh}
 use Rattle.rules.specs.Tape.{zero_tick, Records, records_at}
 use Rattle.rules.specs.Run.{run}
-use Rattle.rules.specs.Print.{ascii, decimal, spaced, ended, stop_text, Opened, opening, opening_text}
+use Rattle.rules.specs.Print.{ascii, decimal, spaced, ended, stop_text, Opened, opening, unopened_text}
 use Rattle.rules.specs.Why.{why}
 
 -- ---- a task's line
@@ -46,13 +46,12 @@ abbrev pub why_records : Table → Records → List ℕ
 why_records T rs = why_lines T (run T fresh rs.calls) ++ stop_text rs.stop
 
 -- in place of document 01's header and lines; a refused table and a bad tape print their one line as there
-abbrev pub instead_text : Opening → List ℕ → List ℕ
-instead_text Accepted t = t
-instead_text (BadTable v) t = opening_text (BadTable v)
-instead_text (BadTape n p) t = opening_text (BadTape n p)
+abbrev pub instead_text : {A : Type 0} → Result A Unopened → (A → List ℕ) → List ℕ
+instead_text (Ok t) records = records t
+instead_text (Err u) records = unopened_text u
 
 abbrev pub why_opened : List ℕ → Opened → List ℕ
-why_opened tape o = instead_text o.answer (why_records o.table (records_at tape o.first zero_tick))
+why_opened tape o = instead_text o (λ (t : Taken Table). why_records t.value (records_at tape t.next zero_tick))
 
 unfoldable pub why_transcript : List ℕ → List ℕ
 why_transcript tape = why_opened tape (opening tape)

@@ -136,12 +136,18 @@ impl From<TapeRefusal> for u8 {
     }
 }
 
-// How a tape opens: its table is accepted, or refused with the check's answer, or the tape is bad, with the refusal's number and the place.
+// Where a tape is bad: the refusal, and the place.
 #[derive(Clone, Copy)]
-pub enum Opening {
-    Accepted,
+pub struct Halt {
+    pub refusal: TapeRefusal,
+    pub place: usize,
+}
+
+// Why a tape doesn't open: its table is refused, with the check's answer, or the tape is bad.
+#[derive(Clone, Copy)]
+pub enum Unopened {
     BadTable(Verdict),
-    BadTape { number: u8, place: usize },
+    BadTape(Halt),
 }
 
 // Why a task's first pending job does or does not run: none is pending, it runs, an earlier deadline is running, or the same deadline was there first. The running job is named by its task and deadline.
