@@ -2,6 +2,7 @@
 #![tactic(auto)]
 
 use rules::{Answer, KernelCall, Late, Named, PLACES, Running, Tick, Verdict};
+use std::fmt;
 
 // How many bytes a page has. What does not fit is left out.
 pub const ROOM: usize = 65536;
@@ -204,5 +205,17 @@ impl Page {
             Some(text) => io::write_all(to, text),
             None => false,
         }
+    }
+}
+
+// `write!` and `writeln!` put their text on a page, too.
+impl fmt::Write for Page {
+    ghost use Rattle.print.specs.Buffers.{Put};
+
+    ghost write_str_gives = { λ before text after. Put before.bytes before.len text after.bytes after.len };
+
+    fn write_str(&mut self, s: &str) -> fmt::Result {
+        self.words(s.as_bytes());
+        Ok(())
     }
 }
