@@ -1,9 +1,16 @@
--- Document 01, "What a call returns": what runs, and the numbers of the refusals. Assumes nothing.
-use Rattle.std.specs.Prelude.{ℕ, Option, Some, Result, Ok, Err}
+-- Document 01, "What a call returns": a job's phase by whether it is released, what runs, and the numbers of the refusals. Assumes nothing.
+use Rattle.std.specs.Prelude.{ℕ, Bool, true, false, Option, Some, Result, Ok, Err}
 use Rattle.rules.specs.declared.Tick.{Tick}
+use Rattle.rules.specs.declared.Phase.{Phase}
+use Rattle.rules.specs.declared.Phase.TheVariants.{Delayed, Released}
 use Rattle.rules.specs.declared.Running.{Running}
 use Rattle.rules.specs.declared.CallRefusal.{CallRefusal}
 use Rattle.rules.specs.declared.CallRefusal.TheVariants.{NoJob, NoTask, LimitReached, BadTick, DueBeyond, NoPlace}
+
+-- released or not
+abbrev pub phase_of : Bool → Phase
+phase_of true = Released
+phase_of false = Delayed
 
 -- what runs: nothing, or a job by its task and deadline
 abbrev pub Choice : Type 0

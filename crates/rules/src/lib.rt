@@ -1,6 +1,8 @@
 // The data that document 01 speaks of. What it says of them stands in specs/.
 #![tactic(auto)]
 
+ghost use Rattle.std.specs.Prelude.{◌≡◌};
+ghost use Rattle.rules.specs.Layer.{is_released};
 ghost use Rattle.rules.specs.Claims.{Claims};
 
 // How many lines a table holds, how many jobs a list, how many late tasks an answer and how many tallies a state.
@@ -45,6 +47,31 @@ pub struct Verdict {
 pub enum Phase {
     Delayed,
     Released,
+}
+
+impl Phase {
+    // Whether the kernel has the job.
+    pub fn is_released(self) -> bool
+        ensures { result ≡ is_released self }
+    {
+        matches!(self, Phase::Released)
+    }
+}
+
+// Released or not.
+impl From<bool> for Phase {
+    ghost use Rattle.std.specs.Prelude.{◌≡◌};
+    ghost use Rattle.rules.specs.Answers.{phase_of};
+
+    ghost from_gives = { λ released phase. phase ≡ phase_of released };
+
+    fn from(released: bool) -> Phase {
+        if released {
+            Phase::Released
+        } else {
+            Phase::Delayed
+        }
+    }
 }
 
 // A pending job as a list keeps it. Its activation tick is its deadline less its task's D. (`Job` of specs/Jobs also says that tick, and more.)
