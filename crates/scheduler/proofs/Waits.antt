@@ -8,8 +8,12 @@ use lib.Dec.{leb, eqb}
 use borrow.Author.Tests.{le-leb, lt-leb, eq-eqb, ne_eqb}
 use Rattle.rules.specs.declared.Job.{Job as Entry}
 use Rattle.rules.specs.declared.Reason.TheVariants.{NonePending, ItRuns, Earlier, ThereFirst}
-use Rattle.rules.specs.declared.Why.{Why}
-use Rattle.rules.specs.declared.Why.TheVariants.{Because, Refused}
+use Rattle.std.specs.Result.{result_and}
+use Rattle.std.specs.Prelude.{Result, Ok, Err}
+use Rattle.std.specs.Prelude as std
+use Rattle.rules.specs.declared.Reason.{Reason}
+use Rattle.rules.specs.declared.CallRefusal.{CallRefusal}
+use Rattle.rules.specs.declared.CallRefusal.TheVariants.{NoTask}
 use Rattle.rules.specs.Words.{◌if◌else◌, only}
 use Rattle.rules.specs.Table.{Table}
 use Rattle.rules.specs.Jobs.{Job, key_at}
@@ -18,21 +22,19 @@ use Rattle.rules.specs.Why.{asked, reason, why}
 use Rattle.rules.proofs.First.{first_of}
 use Rattle.rules.proofs.Reached.{reached_runs}
 use Rattle.table.specs.Lines.{packed}
-use Rattle.jobs.specs.declared.Lead.{Lead}
-use Rattle.jobs.specs.declared.Lead.TheVariants.{NoJob, Leads}
 use Rattle.jobs.specs.Listed.{view, pack, is_earlier, is_of, lead_of}
 use Rattle.jobs.proofs.Laid.{view_pack}
 use Rattle.scheduler.specs.declared.State.{State}
 use Rattle.scheduler.specs.State.{kept, state_of, Handed, why_of}
-use Rattle.scheduler.specs.Steps.{reason_of}
+use Rattle.scheduler.specs.Steps.{reason_of, refused_if, known}
 use Rattle.scheduler.proofs.Back.{table_back, head_back}
 use Rattle.scheduler.proofs.Handed.{handed_by}
 
 -- ---- the rule-book's jobs, as the list keeps them
 
-abbrev leads : Option Job → Lead
-leads none = NoJob
-leads (some j) = Leads (kept j)
+abbrev leads : Option Job → std.Option Entry
+leads none = std.None
+leads (some j) = std.Some (kept j)
 
 own_is : (n : ℕ) (l : List Job) → lead_of (only (is_of n) (map kept l)) ≡ leads (asked n l)
 own_is n [] = refl
@@ -47,40 +49,31 @@ first_is : (l : List Job) → lead_of (map kept l) ≡ leads (first_of l)
 first_is [] = refl
 first_is (j ∷ l) = refl
 
+if_cond : {A : Type 0} (n : A) (c : Bool) (m : A) → (n if c else m) ≡ cond c n m
+unfolding ◌if◌else◌
+if_cond n true m = refl
+if_cond n false m = refl
+
 reason_is : (T : Table) (n : ℕ) (a r : Option Job) → reason_of n (leads a) (leads r) ≡ reason T n a r
-unfolding reason_of reason key_at
+unfolding reason key_at
 reason_is T n none r = refl
 reason_is T n (some a) none = refl
-reason_is T n (some a) (some r) = refl
-
--- ---- the reasons in their order
-
-pub none_own : (n : ℕ) (r : Lead) → NonePending ≡ reason_of n NoJob r
-unfolding reason_of
-none_own n r = refl
-
-pub none_leads : (n : ℕ) (a : Entry) → NonePending ≡ reason_of n (Leads a) NoJob
-unfolding reason_of
-none_leads n a = refl
-
-module _ (n : ℕ) (a r : Entry) where
-  pub own_leads : n ≡ r.task → ItRuns ≡ reason_of n (Leads a) (Leads r)
-  unfolding reason_of ◌if◌else◌
-  own_leads h = rw (eq-eqb n r.task h) refl
-
-  pub earlier_leads : (n ≡ r.task → ⊥) → is_earlier r a ≡ true → Earlier r.task r.due ≡ reason_of n (Leads a) (Leads r)
-  unfolding reason_of ◌if◌else◌
-  earlier_leads h e = rw (ne_eqb n r.task h) (rw e refl)
-
-  pub same_leads : (n ≡ r.task → ⊥) → is_earlier r a ≡ false → ThereFirst r.task r.due ≡ reason_of n (Leads a) (Leads r)
-  unfolding reason_of ◌if◌else◌
-  same_leads h e = rw (ne_eqb n r.task h) (rw e refl)
+reason_is T n (some a) (some r) =
+    sym (if_cond ItRuns (eqb n r.task) _ ∙ ap (λ z. cond (eqb n r.task) ItRuns z) (if_cond (Earlier r.task r.due) (is_earlier (kept r) (kept a)) (ThereFirst r.task r.due)))
 
 -- ---- the answer
 
 -- what the code answers
-abbrev pub why_in : State → ℕ → Why
-why_in s n = Refused 3 if leb s.table.count n else Because (reason_of n (lead_of (only (is_of n) (view s.list))) (lead_of (view s.list)))
+abbrev pub reasoned : State → ℕ → Result Reason CallRefusal
+reasoned s n = Ok (reason_of n (lead_of (only (is_of n) (view s.list))) (lead_of (view s.list)))
+
+abbrev pub why_in : State → ℕ → Result Reason CallRefusal
+why_in s n = result_and (known s.table.count n) (reasoned s n)
+
+row_before : {A : Type 0} (c : Bool) (o : Result A CallRefusal) → result_and (refused_if NoTask c) o ≡ (Err NoTask if c else o)
+unfolding ◌if◌else◌
+row_before true o = refl
+row_before false o = refl
 
 module _ (T : Table) (h : Head) (r : Reached T h) (n : ℕ) where
   reason_same : reason_of n (lead_of (only (is_of n) (view (pack (map kept h.board.jobs))))) (lead_of (view (pack (map kept h.board.jobs))))
@@ -94,7 +87,7 @@ module _ (T : Table) (h : Head) (r : Reached T h) (n : ℕ) where
   unfolding state_of packed why
   why_same =
       let e = reason_same ∙ ap (reason T n (asked n h.board.jobs)) (sym (reached_runs T h r)) in
-      λ i. Refused 3 if leb (packed T.lines).count n else Because (e i)
+      row_before (leb (packed T.lines).count n) _ ∙ (λ i. Err NoTask if leb (packed T.lines).count n else Ok (e i))
 
   pub why_back_lem : why_of (state_of T h) n ≡ why T h.board n
   unfolding why_of
@@ -104,12 +97,8 @@ why_is : (s : State) → Handed s → (n : ℕ) → why_in s n ≡ why_of s n
 why_is s d n = handed_by (λ (z : State). why_in z n ≡ why_of z n) (λ T h r. why_same T h r n ∙ sym (why_back_lem T h r n)) s d
 
 -- the two ways out
-pub refused_why : (s : State) → Handed s → (n : ℕ) → s.table.count ≤ n → Refused 3 ≡ why_of s n
-unfolding ◌if◌else◌
-refused_why s d n h =
-    sym (ap (λ z. Refused 3 if z else Because (reason_of n (lead_of (only (is_of n) (view s.list))) (lead_of (view s.list)))) (le-leb s.table.count n h)) ∙ why_is s d n
+pub refused_why : (s : State) → Handed s → (n : ℕ) (k : CallRefusal) → known s.table.count n ≡ Err k → Err k ≡ why_of s n
+refused_why s d n k e = ap (λ z. result_and z (reasoned s n)) (sym e) ∙ why_is s d n
 
-pub given_why : (s : State) → Handed s → (n : ℕ) → n < s.table.count → Because (reason_of n (lead_of (only (is_of n) (view s.list))) (lead_of (view s.list))) ≡ why_of s n
-unfolding ◌if◌else◌
-given_why s d n h =
-    sym (ap (λ z. Refused 3 if z else Because (reason_of n (lead_of (only (is_of n) (view s.list))) (lead_of (view s.list)))) (lt-leb s.table.count n h)) ∙ why_is s d n
+pub given_why : (s : State) → Handed s → (n : ℕ) → known s.table.count n ≡ Ok tt → reasoned s n ≡ why_of s n
+given_why s d n e = ap (λ z. result_and z (reasoned s n)) (sym e) ∙ why_is s d n

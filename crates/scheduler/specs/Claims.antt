@@ -2,9 +2,9 @@
 use Rattle.std.specs.Prelude.{◌≡◌, ◌↔◌, List, [], ◌∷◌, map, ℕ, ◌≤◌, length, replicate}
 use Rattle.rules.specs.declared.Answer.{Answer}
 use Rattle.rules.specs.declared.Call.{Call}
-use Rattle.rules.specs.declared.Choice.{Choice}
 use Rattle.rules.specs.declared.Line.{Line}
 use Rattle.rules.specs.Words.{places}
+use Rattle.rules.specs.Answers.{Choice}
 use Rattle.rules.specs.Outcome.{One}
 use Rattle.rules.specs.Table.{Table, size, fine, check}
 use Rattle.rules.specs.Layer.{fresh}

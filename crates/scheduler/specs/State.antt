@@ -1,9 +1,10 @@
 -- What a state stands for, and what the check and the calls promise: what the rule-book gives for it. Assumes nothing.
-use Rattle.std.specs.Prelude.{ℕ, ◌-◌, ◌≡◌, List, [], map}
+use Rattle.std.specs.Prelude.{ℕ, ◌-◌, ◌≡◌, List, [], map, Result}
 use Rattle.rules.specs.declared.Job.{Job as Entry}
 use Rattle.rules.specs.declared.Tick.{Tick}
 use Rattle.rules.specs.declared.Call.{Call}
-use Rattle.rules.specs.declared.Why.{Why}
+use Rattle.rules.specs.declared.Reason.{Reason}
+use Rattle.rules.specs.declared.CallRefusal.{CallRefusal}
 use Rattle.rules.specs.Words.{unless}
 use Rattle.rules.specs.Table.{Table, check, deadline_of}
 use Rattle.rules.specs.Jobs.{Job}
@@ -98,7 +99,7 @@ step_of s e = told (table_of s) (head_of s) e
 -- ---- the question
 
 -- the rule-book's answer to why a task's first pending job does or does not run
-unfoldable pub why_of : State → ℕ → Why
+unfoldable pub why_of : State → ℕ → Result Reason CallRefusal
 why_of s n = why (table_of s) (head_of s).board n
 
 -- ---- what the check of a given table, and call e on state s, promise of their result

@@ -1,5 +1,6 @@
 -- The parts of a call, over plain lists of jobs as they are kept. No public promise names them. Assumes nothing.
-use Rattle.std.specs.Prelude.{ℕ, ◌≤◌, Bool, true, false, List, [], leb, eqb, drop}
+use Rattle.std.specs.Prelude.{ℕ, ◌≤◌, Bool, true, false, cond, List, [], leb, eqb, drop, ⊤, Option, Some, None, Result, Ok, Err}
+use Rattle.std.specs.Result.{result_and}
 use Rattle.rules.specs.declared.Tick.{Tick}
 use Rattle.rules.specs.declared.Job.{Job as Entry}
 use Rattle.rules.specs.declared.Line.{Line}
@@ -7,8 +8,9 @@ use Rattle.rules.specs.declared.Phase.{Phase}
 use Rattle.rules.specs.declared.Phase.TheVariants.{Delayed, Released}
 use Rattle.rules.specs.declared.KernelCall.{KernelCall}
 use Rattle.rules.specs.declared.KernelCall.TheVariants.{NoCall, ActivateTask, ChainTask, TerminateTask}
-use Rattle.rules.specs.declared.Choice.{Choice}
-use Rattle.rules.specs.declared.Choice.TheVariants.{Idle, Runs}
+use Rattle.rules.specs.declared.CallRefusal.{CallRefusal}
+use Rattle.rules.specs.declared.CallRefusal.TheVariants.{NoJob, NoTask, LimitReached, BadTick, DueBeyond, NoPlace}
+use Rattle.rules.specs.Answers.{Choice, runs_as, phase_of, result_number}
 use Rattle.rules.specs.declared.Late.{Late}
 use Rattle.rules.specs.declared.Reason.{Reason}
 use Rattle.rules.specs.declared.Reason.TheVariants.{NonePending, ItRuns, Earlier, ThereFirst}
@@ -19,8 +21,6 @@ use Rattle.ticks.specs.Ticks.{sum, is_beyond, response_by}
 use Rattle.table.specs.declared.TaskTable.{TaskTable}
 use Rattle.table.specs.Lines.{line_at}
 use Rattle.jobs.specs.declared.JobList.{JobList}
-use Rattle.jobs.specs.declared.Lead.{Lead}
-use Rattle.jobs.specs.declared.Lead.TheVariants.{NoJob, Leads}
 use Rattle.jobs.specs.Listed.{view, pack, is_earlier, is_first_in, insert_due, first_in, release_first, lead_of, pending_of, late_in}
 use Rattle.monitor.specs.declared.Monitor.{Monitor}
 use Rattle.monitor.specs.Tallies.{counts, tasks_of}
@@ -41,30 +41,52 @@ asked_by x at n = record { at = at; task = n; limit = x.limit; due = sum at x.de
 unfoldable pub asked_of : TaskTable → Tick → ℕ → Activation
 asked_of t at n = asked_by (line_at t.lines n) at n
 
--- the rows of tick, activate, terminate and chain; the first job is the one that ends
-abbrev pub tick_refusal : Tick → Tick → ℕ
-tick_refusal last at = 8 if bad_tick last at else 0
+-- a call is allowed, or refused by a row
+abbrev pub Allowed : Type 0
+Allowed = Result ⊤ CallRefusal
 
-unfoldable pub activate_refusal : Tick → ℕ → JobList → Activation → ℕ
+-- refused by this row where its condition holds
+abbrev pub refused_if : CallRefusal → Bool → Allowed
+refused_if k c = cond c (Err k) (Ok tt)
+
+-- rows 8, 2, 3, 4, 10 and 9
+abbrev pub in_time : Tick → Tick → Allowed
+in_time last at = refused_if BadTick (bad_tick last at)
+
+abbrev pub some_job : ℕ → Allowed
+some_job pending = refused_if NoJob (eqb pending 0)
+
+abbrev pub known : ℕ → ℕ → Allowed
+known lines n = refused_if NoTask (leb lines n)
+
+abbrev pub below_limit : ℕ → ℕ → Allowed
+below_limit limit pending = refused_if LimitReached (leb limit pending)
+
+abbrev pub some_place : ℕ → Allowed
+some_place pending = refused_if NoPlace (leb 32 pending)
+
+abbrev pub in_reach : Tick → Allowed
+in_reach due = refused_if DueBeyond (is_beyond due)
+
+-- the rows of activate, terminate and chain: the first that refuses; the first job is the one that ends
+abbrev pub activate_refusal : Tick → ℕ → JobList → Activation → Allowed
 activate_refusal last lines l new =
-    8 if bad_tick last new.at
-    else 3 if leb lines new.task
-    else 4 if leb new.limit (pending_of new.task (drop 0 (view l)))
-    else 10 if leb 32 l.count
-    else 9 if is_beyond new.due
-    else 0
+    result_and (in_time last new.at)
+    (result_and (known lines new.task)
+    (result_and (below_limit new.limit (pending_of new.task (drop 0 (view l))))
+    (result_and (some_place l.count)
+    (in_reach new.due))))
 
-unfoldable pub terminate_refusal : Tick → ℕ → Tick → ℕ
-terminate_refusal last pending at = 8 if bad_tick last at else 2 if eqb pending 0 else 0
+abbrev pub terminate_refusal : Tick → ℕ → Tick → Allowed
+terminate_refusal last pending at = result_and (in_time last at) (some_job pending)
 
-unfoldable pub chain_refusal : Tick → ℕ → JobList → Activation → ℕ
+abbrev pub chain_refusal : Tick → ℕ → JobList → Activation → Allowed
 chain_refusal last lines l new =
-    8 if bad_tick last new.at
-    else 2 if eqb l.count 0
-    else 3 if leb lines new.task
-    else 4 if leb new.limit (pending_of new.task (drop 1 (view l)))
-    else 9 if is_beyond new.due
-    else 0
+    result_and (in_time last new.at)
+    (result_and (some_job l.count)
+    (result_and (known lines new.task)
+    (result_and (below_limit new.limit (pending_of new.task (drop 1 (view l))))
+    (in_reach new.due))))
 
 -- ---- what moves
 
@@ -74,9 +96,9 @@ pub record Change : Type 0 where
   pub call : KernelCall
 
 -- the job that leads runs
-abbrev pub choice_of : Lead → Choice
-choice_of NoJob = Idle
-choice_of (Leads x) = Runs x.task x.due
+abbrev pub choice_of : Option Entry → Choice
+choice_of None = None
+choice_of (Some x) = runs_as x.task x.due
 
 abbrev pub choice_in : List Entry → Choice
 choice_in xs = choice_of (lead_of xs)
@@ -86,16 +108,12 @@ abbrev pub job_as : ℕ → Tick → Phase → Entry
 job_as n due p = record { due = due; task = n; phase = p }
 
 -- activate: a new job that is first is released, by ActivateTask
-abbrev pub entry_phase : Bool → Phase
-entry_phase true = Released
-entry_phase false = Delayed
-
 abbrev pub entry_call : Bool → ℕ → KernelCall
 entry_call true n = ActivateTask n
 entry_call false n = NoCall
 
 abbrev pub entered_as : ℕ → Tick → List Entry → Bool → Change
-entered_as n due xs f = record { list = pack (insert_due (job_as n due (entry_phase f)) xs); call = entry_call f n }
+entered_as n due xs f = record { list = pack (insert_due (job_as n due (phase_of f)) xs); call = entry_call f n }
 
 unfoldable pub entered_in : ℕ → Tick → List Entry → Change
 entered_in n due xs = entered_as n due xs (is_first_in (job_as n due Delayed) xs)
@@ -105,9 +123,9 @@ abbrev pub settle_as : Phase → ℕ → KernelCall
 settle_as Delayed n = ChainTask n
 settle_as Released n = TerminateTask
 
-abbrev pub settle_of : Lead → KernelCall
-settle_of NoJob = TerminateTask
-settle_of (Leads x) = settle_as x.phase x.task
+abbrev pub settle_of : Option Entry → KernelCall
+settle_of None = TerminateTask
+settle_of (Some x) = settle_as x.phase x.task
 
 unfoldable pub settled_in : List Entry → Change
 settled_in xs = record { list = pack (release_first xs); call = settle_of (lead_of xs) }
@@ -119,13 +137,11 @@ chained_in n due xs = settled_in (insert_due (job_as n due Delayed) xs)
 -- ---- why a job waits
 
 -- the first job of task n, and the one that leads, which runs: the reasons in their order
-unfoldable pub reason_of : ℕ → Lead → Lead → Reason
-reason_of n NoJob r = NonePending
-reason_of n (Leads a) NoJob = NonePending
-reason_of n (Leads a) (Leads r) =
-    ItRuns if eqb n r.task
-    else Earlier r.task r.due if is_earlier r a
-    else ThereFirst r.task r.due
+abbrev pub reason_of : ℕ → Option Entry → Option Entry → Reason
+reason_of n None r = NonePending
+reason_of n (Some a) None = NonePending
+reason_of n (Some a) (Some r) =
+    cond (eqb n r.task) ItRuns (cond (is_earlier r a) (Earlier r.task r.due) (ThereFirst r.task r.due))
 
 -- ---- what is counted
 

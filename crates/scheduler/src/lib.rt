@@ -1,21 +1,22 @@
 // The scheduler by value: the check that hands out a state, and the calls. Each promises what the rule-book gives.
 #![tactic(auto)]
 
-ghost use Rattle.std.specs.Prelude.{◌≡◌, ◌≤◌, true, cond, eqb};
+ghost use Rattle.std.specs.Prelude.{◌≡◌, ◌≤◌, true, cond};
 ghost use Rattle.rules.specs.declared.Call.TheVariants.{Wait, Activate, Terminate, Chain};
 ghost use Rattle.rules.specs.declared.Phase.TheVariants.{Delayed};
 ghost use Rattle.rules.specs.declared.KernelCall.TheVariants.{NoCall};
 ghost use Rattle.ticks.specs.Ticks.{response_by};
 ghost use Rattle.jobs.specs.Listed.{Shaped};
+ghost use Rattle.rules.specs.Answers.{result_number};
 ghost use Rattle.rules.specs.Table.{greatest};
-ghost use Rattle.scheduler.specs.Steps.{fresh_of, choice_of, asked_by, tick_refusal, activate_refusal, terminate_refusal, chain_refusal, job_as, entry_phase, entry_call, settle_of, reason_of};
+ghost use Rattle.scheduler.specs.Steps.{fresh_of, choice_of, asked_by, in_time, some_job, known, below_limit, some_place, in_reach, activate_refusal, terminate_refusal, chain_refusal, job_as, entry_call, settle_of, reason_of};
 ghost use Rattle.scheduler.specs.State.{Handed, CheckGives, CallGives, why_of};
 ghost use Rattle.scheduler.specs.Claims.{Claims};
 
-use jobs::{JobList, Lead};
+use jobs::JobList;
 use monitor::Monitor;
 use rules::{
-    Answer, Call, Choice, Job, KernelCall, Line, PLACES, Phase, Reason, Tick, Verdict, Why,
+    Answer, Call, CallRefusal, Job, KernelCall, Line, PLACES, Phase, Reason, Running, Tick, Verdict,
 };
 use table::TaskTable;
 
@@ -89,23 +90,21 @@ pub fn tick(s: State, at: Tick) -> Stepped
     requires { Handed s }
     ensures { CallGives s (Wait at) result }
 {
-    let refusal = tick_refusal(s.last, at);
-    let accepted = is_accepted(refusal);
+    let allowed = in_time(s.last, at);
+    let accepted = allowed.is_ok();
     let now = moved(s.last, at, accepted);
     let late = jobs::newly_late(s.list, s.last, now);
     let lead = jobs::front(s.list, false);
     let answer = Answer {
-        result: refusal,
+        result: number_of(allowed),
         running: running(lead),
         call: KernelCall::NoCall,
         late,
     };
-    let table = s.table;
-    let list = s.list;
     let state = State {
-        table,
+        table: s.table,
         last: now,
-        list,
+        list: s.list,
         monitor: monitor::with_late(s.monitor, late),
     };
     Stepped { state, answer }
@@ -118,22 +117,21 @@ pub fn activate(s: State, at: Tick, task: u8) -> Stepped
 {
     let line = table::line_of(s.table, task);
     let new = asked(line, at, task);
-    let refusal = activate_refusal(s.last, s.table.count, s.list, new);
-    let accepted = is_accepted(refusal);
+    let allowed = activate_refusal(s.last, s.table.count, s.list, new);
+    let accepted = allowed.is_ok();
     let now = moved(s.last, at, accepted);
     let late = jobs::newly_late(s.list, s.last, now);
-    let first = jobs::is_first(s.list, delayed(new));
-    let job = entry(new, first);
+    let first = jobs::is_first(s.list, new.job(Phase::Delayed));
+    let job = new.job(Phase::from(first));
     let lead = jobs::front_with(jobs::front(s.list, false), job, accepted);
     let answer = Answer {
-        result: refusal,
+        result: number_of(allowed),
         running: running(lead),
         call: entry_call(first, task, accepted),
         late,
     };
-    let table = s.table;
     let state = State {
-        table,
+        table: s.table,
         last: now,
         monitor: monitor::with_late(s.monitor, late),
         list: jobs::insert(s.list, job, accepted),
@@ -146,8 +144,8 @@ pub fn terminate(s: State, at: Tick) -> Stepped
     requires { Handed s }
     ensures { CallGives s (Terminate at) result }
 {
-    let refusal = terminate_refusal(s.last, s.list.count, at);
-    let accepted = is_accepted(refusal);
+    let allowed = terminate_refusal(s.last, s.list.count, at);
+    let accepted = allowed.is_ok();
     let now = moved(s.last, at, accepted);
     let late = jobs::newly_late(s.list, s.last, now);
     let first = jobs::first(s.list);
@@ -155,15 +153,14 @@ pub fn terminate(s: State, at: Tick) -> Stepped
     let response = response_of(line, first, at, accepted);
     let lead = jobs::front(s.list, accepted);
     let answer = Answer {
-        result: refusal,
+        result: number_of(allowed),
         running: running(lead),
         call: settle_call(lead, accepted),
         late,
     };
-    let table = s.table;
     let reported = monitor::with_late(s.monitor, late);
     let state = State {
-        table,
+        table: s.table,
         last: now,
         monitor: monitor::with_ended(reported, accepted, first.task, response),
         list: jobs::remove_first(s.list, accepted),
@@ -178,26 +175,23 @@ pub fn chain(s: State, at: Tick, task: u8) -> Stepped
 {
     let first = jobs::first(s.list);
     let lines = table::lines_of(s.table, task, first.task);
-    let line = lines.one;
-    let ending = lines.other;
-    let new = asked(line, at, task);
-    let refusal = chain_refusal(s.last, s.table.count, s.list, new);
-    let accepted = is_accepted(refusal);
+    let new = asked(lines.one, at, task);
+    let allowed = chain_refusal(s.last, s.table.count, s.list, new);
+    let accepted = allowed.is_ok();
     let now = moved(s.last, at, accepted);
     let late = jobs::newly_late(s.list, s.last, now);
-    let response = response_of(ending, first, at, accepted);
-    let job = delayed(new);
+    let response = response_of(lines.other, first, at, accepted);
+    let job = new.job(Phase::Delayed);
     let lead = jobs::front_with(jobs::front(s.list, accepted), job, accepted);
     let answer = Answer {
-        result: refusal,
+        result: number_of(allowed),
         running: running(lead),
         call: settle_call(lead, accepted),
         late,
     };
-    let table = s.table;
     let reported = monitor::with_late(s.monitor, late);
     let state = State {
-        table,
+        table: s.table,
         last: now,
         monitor: monitor::with_ended(reported, accepted, first.task, response),
         list: jobs::replace_first(s.list, job, accepted),
@@ -221,215 +215,213 @@ pub fn call(s: State, call: Call) -> Stepped
 // ---- the question
 
 // Why a task's first pending job does or does not run. The state is left as it is.
-pub fn why(s: State, task: u8) -> Why
+pub fn why(s: State, task: u8) -> Result<Reason, CallRefusal>
     requires { Handed s }
     ensures { result ≡ why_of s task }
 {
-    if s.table.count <= task as usize {
-        return Why::Refused(3);
-    }
+    known(s.table.count, task)?;
     let asked = jobs::first_of(s.list, task);
     let runs = jobs::front(s.list, false);
-    Why::Because(reason(task, asked, runs))
+    Ok(reason(task, asked, runs))
 }
 
 // The reasons in their order, by the first job of the task and the one that runs.
-fn reason(task: u8, asked: Lead, runs: Lead) -> Reason
+fn reason(task: u8, asked: Option<Job>, runs: Option<Job>) -> Reason
     ensures { result ≡ reason_of task asked runs }
 {
-    let Lead::Leads(job) = asked else {
+    let (Some(job), Some(first)) = (asked, runs) else {
         return Reason::NonePending;
     };
-    let Lead::Leads(first) = runs else {
-        return Reason::NonePending;
-    };
-    let due = first.due;
     if task == first.task {
         return Reason::ItRuns;
     }
     if jobs::is_earlier(first, job) {
-        return Reason::Earlier(first.task, due);
+        return Reason::Earlier(first.task, first.due);
     }
-    Reason::ThereFirst(first.task, due)
+    Reason::ThereFirst(first.task, first.due)
 }
 
 // ---- the refusals, in the order of the rows
 
 // Row 8.
-fn tick_refusal(last: Tick, at: Tick) -> u8
-    ensures { result ≡ tick_refusal last at }
+fn in_time(last: Tick, at: Tick) -> Result<(), CallRefusal>
+    ensures { result ≡ in_time last at }
 {
     if ticks::bad_tick(last, at) {
-        return 8;
+        return Err(CallRefusal::BadTick);
     }
-    0
+    Ok(())
+}
+
+// Row 2.
+fn some_job(pending: usize) -> Result<(), CallRefusal>
+    ensures { result ≡ some_job pending }
+{
+    if pending == 0 {
+        return Err(CallRefusal::NoJob);
+    }
+    Ok(())
+}
+
+// Row 3.
+fn known(lines: usize, task: u8) -> Result<(), CallRefusal>
+    ensures { result ≡ known lines task }
+{
+    if lines <= task as usize {
+        return Err(CallRefusal::NoTask);
+    }
+    Ok(())
+}
+
+// Row 4.
+fn below_limit(limit: u8, pending: usize) -> Result<(), CallRefusal>
+    ensures { result ≡ below_limit limit pending }
+{
+    if limit as usize <= pending {
+        return Err(CallRefusal::LimitReached);
+    }
+    Ok(())
+}
+
+// Row 10.
+fn some_place(pending: usize) -> Result<(), CallRefusal>
+    ensures { result ≡ some_place pending }
+{
+    if PLACES <= pending {
+        return Err(CallRefusal::NoPlace);
+    }
+    Ok(())
+}
+
+// Row 9.
+fn in_reach(due: Tick) -> Result<(), CallRefusal>
+    ensures { result ≡ in_reach due }
+{
+    if ticks::is_beyond(due) {
+        return Err(CallRefusal::DueBeyond);
+    }
+    Ok(())
 }
 
 // Rows 8, 3, 4, 10 and 9.
-fn activate_refusal(last: Tick, lines: usize, list: JobList, new: Activation) -> u8
+fn activate_refusal(
+    last: Tick,
+    lines: usize,
+    list: JobList,
+    new: Activation,
+) -> Result<(), CallRefusal>
     requires { Shaped list }
     ensures { result ≡ activate_refusal last lines list new }
 {
-    let at = new.at;
-    if ticks::bad_tick(last, at) {
-        return 8;
-    }
-    if lines <= new.task as usize {
-        return 3;
-    }
-    if new.limit as usize <= jobs::pending_from(list, 0, new.task) {
-        return 4;
-    }
-    if PLACES <= list.count {
-        return 10;
-    }
-    let due = new.due;
-    if ticks::is_beyond(due) {
-        return 9;
-    }
-    0
+    in_time(last, new.at)?;
+    known(lines, new.task)?;
+    below_limit(new.limit, jobs::pending_from(list, 0, new.task))?;
+    some_place(list.count)?;
+    in_reach(new.due)
 }
 
 // Rows 8 and 2.
-fn terminate_refusal(last: Tick, pending: usize, at: Tick) -> u8
+fn terminate_refusal(last: Tick, pending: usize, at: Tick) -> Result<(), CallRefusal>
     ensures { result ≡ terminate_refusal last pending at }
 {
-    if ticks::bad_tick(last, at) {
-        return 8;
-    }
-    if pending == 0 {
-        return 2;
-    }
-    0
+    in_time(last, at)?;
+    some_job(pending)
 }
 
 // Rows 8, 2, 3, 4 and 9. The ending job, the first, isn't counted.
-fn chain_refusal(last: Tick, lines: usize, list: JobList, new: Activation) -> u8
+fn chain_refusal(
+    last: Tick,
+    lines: usize,
+    list: JobList,
+    new: Activation,
+) -> Result<(), CallRefusal>
     requires { Shaped list }
     ensures { result ≡ chain_refusal last lines list new }
 {
-    let at = new.at;
-    if ticks::bad_tick(last, at) {
-        return 8;
+    in_time(last, new.at)?;
+    some_job(list.count)?;
+    known(lines, new.task)?;
+    below_limit(new.limit, jobs::pending_from(list, 1, new.task))?;
+    in_reach(new.due)
+}
+
+// An answer's result: 0 where the call is allowed.
+fn number_of(allowed: Result<(), CallRefusal>) -> u8
+    ensures { result ≡ result_number allowed }
+{
+    match allowed {
+        Ok(()) => 0,
+        Err(refusal) => u8::from(refusal),
     }
-    if list.count == 0 {
-        return 2;
-    }
-    if lines <= new.task as usize {
-        return 3;
-    }
-    if new.limit as usize <= jobs::pending_from(list, 1, new.task) {
-        return 4;
-    }
-    let due = new.due;
-    if ticks::is_beyond(due) {
-        return 9;
-    }
-    0
 }
 
 // ---- the parts of a call
 
-// 0 is no refusal.
-fn is_accepted(refusal: u8) -> bool
-    ensures { result ≡ eqb refusal 0 }
+// The job that an activation at this tick would make, and the limit that it has to keep.
+fn asked(line: Line, at: Tick, task: u8) -> Activation
+    ensures { result ≡ asked_by line at task }
 {
-    refusal == 0
+    Activation {
+        at,
+        task,
+        limit: line.limit,
+        due: ticks::plus(at, line.deadline),
+    }
+}
+
+impl Activation {
+    // The new job.
+    fn job(self, phase: Phase) -> Job
+        ensures { result ≡ job_as self.task self.due phase }
+    {
+        Job {
+            due: self.due,
+            task: self.task,
+            phase,
+        }
+    }
 }
 
 // The last accepted call's tick, after this call.
 fn moved(last: Tick, at: Tick, accepted: bool) -> Tick
     ensures { result ≡ cond accepted at last }
 {
-    if accepted {
-        return at;
-    }
-    last
-}
-
-// The job that an activation at this tick would make, and the limit that it has to keep.
-fn asked(line: Line, at: Tick, task: u8) -> Activation
-    ensures { result ≡ asked_by line at task }
-{
-    let deadline = line.deadline;
-    Activation {
-        at,
-        task,
-        limit: line.limit,
-        due: ticks::plus(at, deadline),
-    }
+    if accepted { at } else { last }
 }
 
 // What runs: the job that leads. It is the one that the kernel runs (rules, proofs/First).
-fn running(lead: Lead) -> Choice
+fn running(lead: Option<Job>) -> Option<Running>
     ensures { result ≡ choice_of lead }
 {
-    match lead {
-        Lead::NoJob => Choice::Idle,
-        Lead::Leads(job) => {
-            let due = job.due;
-            Choice::Runs(job.task, due)
-        }
-    }
-}
-
-// A new job, held back.
-fn delayed(new: Activation) -> Job
-    ensures { result ≡ job_as new.task new.due Delayed }
-{
-    let due = new.due;
-    Job {
-        due,
-        task: new.task,
-        phase: Phase::Delayed,
-    }
-}
-
-// A new job of an activation: released if it is first, and delayed otherwise.
-fn entry(new: Activation, first: bool) -> Job
-    ensures { result ≡ job_as new.task new.due (entry_phase first) }
-{
-    let due = new.due;
-    let phase = if first {
-        Phase::Released
-    } else {
-        Phase::Delayed
-    };
-    Job {
-        due,
-        task: new.task,
-        phase,
-    }
+    lead.map(|job| Running {
+        task: job.task,
+        due: job.due,
+    })
 }
 
 // The kernel call of an activation: ActivateTask if the new job is first, otherwise none.
 fn entry_call(first: bool, task: u8, accepted: bool) -> KernelCall
     ensures { result ≡ cond accepted (entry_call first task) NoCall }
 {
-    if accepted {
-        if first {
-            return KernelCall::ActivateTask(task);
-        }
+    if accepted && first {
+        return KernelCall::ActivateTask(task);
     }
     KernelCall::NoCall
 }
 
 // The kernel call once the running job has left: ChainTask if the job that leads is delayed; otherwise TerminateTask.
-fn settle_call(lead: Lead, accepted: bool) -> KernelCall
+fn settle_call(lead: Option<Job>, accepted: bool) -> KernelCall
     ensures { result ≡ cond accepted (settle_of lead) NoCall }
 {
     if !accepted {
         return KernelCall::NoCall;
     }
-    match lead {
-        Lead::NoJob => KernelCall::TerminateTask,
-        Lead::Leads(job) => {
-            let phase = job.phase;
-            match phase {
-                Phase::Delayed => KernelCall::ChainTask(job.task),
-                Phase::Released => KernelCall::TerminateTask,
-            }
-        }
+    let Some(job) = lead else {
+        return KernelCall::TerminateTask;
+    };
+    match job.phase {
+        Phase::Delayed => KernelCall::ChainTask(job.task),
+        Phase::Released => KernelCall::TerminateTask,
     }
 }
 
@@ -441,9 +433,7 @@ fn response_of(line: Line, job: Job, at: Tick, accepted: bool) -> u64
     if !accepted {
         return 0;
     }
-    let due = job.due;
-    let deadline = line.deadline;
-    ticks::response(at, due, deadline)
+    ticks::response(at, job.due, line.deadline)
 }
 
 // Does nothing. Its contract is all of specs/Claims, so that a claim without a proof fails the check.

@@ -16,9 +16,9 @@ pub returns : goal.returns
 returns c =
     let s = c.args.s in
     let e = Wait c.args.at in
-    let ok = c.is_accepted-accepted.result in
+    let ok = c.is_ok-accepted.result in
     hand_on s c.requires e _
-    (decided s c.requires e c.tick_refusal-refusal.result ok c.tick_refusal-refusal.ensures c.is_accepted-accepted.ensures c.args.at (change_in s e) (λ (l : Late). late_counted l s.monitor) refl _ _ _ _ _ _
+    (decided s c.requires e c.in_time-allowed.result c.number_of.result ok c.in_time-allowed.ensures c.number_of.ensures c.is_ok-accepted.ensures.value c.args.at (change_in s e) (λ (l : Late). late_counted l s.monitor) refl _ _ _ _ _ _
     (record {
       time = c.moved-now.ensures;
       lates = c.newly_late-late.ensures;
