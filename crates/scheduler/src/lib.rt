@@ -20,7 +20,7 @@ use rules::{
 };
 use table::TaskTable;
 
-// The scheduler state of a recorder head.
+// The scheduler state of a recorder head. That it was handed out is no invariant of the type: what the check gives after a refusal is a state that was not (HandedExactly).
 #[derive(Clone, Copy)]
 pub struct State {
     pub table: TaskTable,
@@ -78,7 +78,7 @@ fn fresh(table: TaskTable) -> State
     State {
         table,
         last: Tick(0),
-        list: jobs::empty(),
+        list: JobList::empty(),
         monitor: monitor::none(),
     }
 }
@@ -93,8 +93,8 @@ pub fn tick(s: State, at: Tick) -> Stepped
     let allowed = in_time(s.last, at);
     let accepted = allowed.is_ok();
     let now = moved(s.last, at, accepted);
-    let late = jobs::newly_late(s.list, s.last, now);
-    let lead = jobs::front(s.list, false);
+    let late = s.list.newly_late(s.last, now);
+    let lead = s.list.front(false);
     let answer = Answer {
         result: number_of(allowed),
         running: running(lead),
@@ -117,13 +117,13 @@ pub fn activate(s: State, at: Tick, task: u8) -> Stepped
 {
     let line = table::line_of(s.table, task);
     let new = asked(line, at, task);
-    let allowed = activate_refusal(s.last, s.table.count, s.list, new);
+    let allowed = activate_refusal(&s, new);
     let accepted = allowed.is_ok();
     let now = moved(s.last, at, accepted);
-    let late = jobs::newly_late(s.list, s.last, now);
-    let first = jobs::is_first(s.list, new.job(Phase::Delayed));
+    let late = s.list.newly_late(s.last, now);
+    let first = s.list.is_first(new.job(Phase::Delayed));
     let job = new.job(Phase::from(first));
-    let lead = jobs::front_with(jobs::front(s.list, false), job, accepted);
+    let lead = jobs::front_with(s.list.front(false), job, accepted);
     let answer = Answer {
         result: number_of(allowed),
         running: running(lead),
@@ -134,7 +134,7 @@ pub fn activate(s: State, at: Tick, task: u8) -> Stepped
         table: s.table,
         last: now,
         monitor: monitor::with_late(s.monitor, late),
-        list: jobs::insert(s.list, job, accepted),
+        list: s.list.insert(job, accepted),
     };
     Stepped { state, answer }
 }
@@ -144,14 +144,14 @@ pub fn terminate(s: State, at: Tick) -> Stepped
     requires { Handed s }
     ensures { CallGives s (Terminate at) result }
 {
-    let allowed = terminate_refusal(s.last, s.list.count, at);
+    let allowed = terminate_refusal(&s, at);
     let accepted = allowed.is_ok();
     let now = moved(s.last, at, accepted);
-    let late = jobs::newly_late(s.list, s.last, now);
-    let first = jobs::first(s.list);
+    let late = s.list.newly_late(s.last, now);
+    let first = s.list.first();
     let line = table::line_of(s.table, first.task);
     let response = response_of(line, first, at, accepted);
-    let lead = jobs::front(s.list, accepted);
+    let lead = s.list.front(accepted);
     let answer = Answer {
         result: number_of(allowed),
         running: running(lead),
@@ -163,7 +163,7 @@ pub fn terminate(s: State, at: Tick) -> Stepped
         table: s.table,
         last: now,
         monitor: monitor::with_ended(reported, accepted, first.task, response),
-        list: jobs::remove_first(s.list, accepted),
+        list: s.list.remove_first(accepted),
     };
     Stepped { state, answer }
 }
@@ -173,16 +173,16 @@ pub fn chain(s: State, at: Tick, task: u8) -> Stepped
     requires { Handed s }
     ensures { CallGives s (Chain at task) result }
 {
-    let first = jobs::first(s.list);
+    let first = s.list.first();
     let lines = table::lines_of(s.table, task, first.task);
     let new = asked(lines.one, at, task);
-    let allowed = chain_refusal(s.last, s.table.count, s.list, new);
+    let allowed = chain_refusal(&s, new);
     let accepted = allowed.is_ok();
     let now = moved(s.last, at, accepted);
-    let late = jobs::newly_late(s.list, s.last, now);
+    let late = s.list.newly_late(s.last, now);
     let response = response_of(lines.other, first, at, accepted);
     let job = new.job(Phase::Delayed);
-    let lead = jobs::front_with(jobs::front(s.list, accepted), job, accepted);
+    let lead = jobs::front_with(s.list.front(accepted), job, accepted);
     let answer = Answer {
         result: number_of(allowed),
         running: running(lead),
@@ -194,7 +194,7 @@ pub fn chain(s: State, at: Tick, task: u8) -> Stepped
         table: s.table,
         last: now,
         monitor: monitor::with_ended(reported, accepted, first.task, response),
-        list: jobs::replace_first(s.list, job, accepted),
+        list: s.list.replace_first(job, accepted),
     };
     Stepped { state, answer }
 }
@@ -220,8 +220,8 @@ pub fn why(s: State, task: u8) -> Result<Reason, CallRefusal>
     ensures { result ≡ why_of s task }
 {
     known(s.table.count, task)?;
-    let asked = jobs::first_of(s.list, task);
-    let runs = jobs::front(s.list, false);
+    let asked = s.list.first_of(task);
+    let runs = s.list.front(false);
     Ok(reason(task, asked, runs))
 }
 
@@ -304,44 +304,34 @@ fn in_reach(due: Tick) -> Result<(), CallRefusal>
 }
 
 // Rows 8, 3, 4, 10 and 9.
-fn activate_refusal(
-    last: Tick,
-    lines: usize,
-    list: JobList,
-    new: Activation,
-) -> Result<(), CallRefusal>
-    requires { Shaped list }
-    ensures { result ≡ activate_refusal last lines list new }
+fn activate_refusal(s: &State, new: Activation) -> Result<(), CallRefusal>
+    requires { Shaped s.now.list }
+    ensures { result ≡ activate_refusal s.now.last s.now.table.count s.now.list new }
 {
-    in_time(last, new.at)?;
-    known(lines, new.task)?;
-    below_limit(new.limit, jobs::pending_from(list, 0, new.task))?;
-    some_place(list.count)?;
+    in_time(s.last, new.at)?;
+    known(s.table.count, new.task)?;
+    below_limit(new.limit, s.list.pending_from(0, new.task))?;
+    some_place(s.list.count)?;
     in_reach(new.due)
 }
 
 // Rows 8 and 2.
-fn terminate_refusal(last: Tick, pending: usize, at: Tick) -> Result<(), CallRefusal>
-    ensures { result ≡ terminate_refusal last pending at }
+fn terminate_refusal(s: &State, at: Tick) -> Result<(), CallRefusal>
+    ensures { result ≡ terminate_refusal s.now.last s.now.list.count at }
 {
-    in_time(last, at)?;
-    some_job(pending)
+    in_time(s.last, at)?;
+    some_job(s.list.count)
 }
 
 // Rows 8, 2, 3, 4 and 9. The ending job, the first, isn't counted.
-fn chain_refusal(
-    last: Tick,
-    lines: usize,
-    list: JobList,
-    new: Activation,
-) -> Result<(), CallRefusal>
-    requires { Shaped list }
-    ensures { result ≡ chain_refusal last lines list new }
+fn chain_refusal(s: &State, new: Activation) -> Result<(), CallRefusal>
+    requires { Shaped s.now.list }
+    ensures { result ≡ chain_refusal s.now.last s.now.table.count s.now.list new }
 {
-    in_time(last, new.at)?;
-    some_job(list.count)?;
-    known(lines, new.task)?;
-    below_limit(new.limit, jobs::pending_from(list, 1, new.task))?;
+    in_time(s.last, new.at)?;
+    some_job(s.list.count)?;
+    known(s.table.count, new.task)?;
+    below_limit(new.limit, s.list.pending_from(1, new.task))?;
     in_reach(new.due)
 }
 

@@ -25,7 +25,7 @@ new_is c = let a = c.args in asked_is a.s.table a.at a.task _ _ c.line_of-line.e
 allowed : (c : After-activate_refusal-allowed) → c.activate_refusal-allowed.result ≡ allowed_in c.args.s (Activate c.args.at c.args.task)
 allowed c =
     let a = c.args in
-    c.activate_refusal-allowed.ensures ∙ ap (activate_refusal a.s.last a.s.table.count a.s.list) (new_is c.before.before.before)
+    c.activate_refusal-allowed.ensures ∙ ap (activate_refusal a.s.last a.s.table.count a.s.list) (new_is c.before.before)
 
 pub activate_refusal-allowed-requires : goal.activate_refusal-allowed-requires
 activate_refusal-allowed-requires c = handed_shaped c.args.s c.requires

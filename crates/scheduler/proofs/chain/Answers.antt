@@ -28,7 +28,7 @@ new_is c =
 allowed : (c : After-chain_refusal-allowed) → c.chain_refusal-allowed.result ≡ allowed_in c.args.s (Chain c.args.at c.args.task)
 allowed c =
     let a = c.args in
-    c.chain_refusal-allowed.ensures ∙ ap (chain_refusal a.s.last a.s.table.count a.s.list) (new_is c.before.before.before)
+    c.chain_refusal-allowed.ensures ∙ ap (chain_refusal a.s.last a.s.table.count a.s.list) (new_is c.before.before)
 
 -- where the call is accepted a job ends
 ends : (c : After-is_ok-accepted) → c.is_ok-accepted.result ≡ true → Ends c.args.s c.args.at
