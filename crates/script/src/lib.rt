@@ -201,18 +201,10 @@ fn line_of(text: &[u8]) -> Line {
     }
 }
 
-fn no_line() -> Line {
-    Line {
-        deadline: Span(0),
-        priority: 0,
-        limit: 0,
-    }
-}
-
 // The lines of a text, with commas between them. Numbers that an entry lacks are those of the next.
 pub fn lines_of(text: &[u8]) -> Lines {
     let mut told = Lines {
-        lines: [no_line(); MOST],
+        lines: [Line::default(); MOST],
         count: 0,
     };
     let mut rest = text;
@@ -226,7 +218,7 @@ pub fn lines_of(text: &[u8]) -> Lines {
 // The lines of a text as a table: the first 32, and how many there are.
 pub fn table_of(text: &[u8]) -> TaskTable {
     let told = lines_of(text);
-    let mut lines = [no_line(); PLACES];
+    let mut lines = [Line::default(); PLACES];
     lines.copy_from_slice(&told.lines[..PLACES]);
     TaskTable {
         lines,
