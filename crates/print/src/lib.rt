@@ -1,13 +1,13 @@
 // Lines as document 01 prints them, put on a page.
 #![tactic(auto)]
 
-use rules::{Answer, KernelCall, Late, Named, PLACES, Running, Tick, Verdict};
+use rules::{Answer, Halt, KernelCall, Late, Named, PLACES, Running, Tick, Verdict};
 use std::fmt;
 
 // How many bytes a page has. What does not fit is left out.
 pub const ROOM: usize = 65536;
 
-// Bytes, and how many of them are put: a text goes behind them (specs/Buffers). By methods, not `fmt::Display`: std promises nothing of the bytes that `fmt` writes.
+// Bytes, and how many of them are put: a text goes behind them (specs/Buffers). The lines are methods, no `fmt::Display`: std promises nothing of the bytes that a `fmt` writes.
 #[derive(Drop)]
 pub struct Page {
     pub bytes: [u8; ROOM],
@@ -17,6 +17,7 @@ pub struct Page {
 impl Page {
     ghost use Rattle.std.specs.Prelude.{◌≡◌, [], ◌∷◌, replicate};
     ghost use Rattle.rules.specs.Print.{decimal, spaced, ended, call_text, comma_tasks, late_text, answer_text, header_text, table_text, tape_text};
+    ghost use Rattle.rules.specs.Number.{tape_number};
     ghost use Rattle.print.specs.Buffers.{Put, choice_text, named_text};
 
     pub fn new() -> Page
@@ -187,13 +188,13 @@ impl Page {
     }
 
     // A bad tape's line: the refusal's number and the place.
-    pub fn tape_line(&mut self, refusal: u8, place: usize)
-        ensures { Put self.old.bytes self.old.len (ended (tape_text refusal place)) self.new.bytes self.new.len }
+    pub fn tape_line(&mut self, halt: Halt)
+        ensures { Put self.old.bytes self.old.len (ended (tape_text (tape_number halt.refusal) halt.place)) self.new.bytes self.new.len }
     {
         self.words(b"tape ");
-        self.number(refusal as u64);
+        self.number(u8::from(halt.refusal) as u64);
         self.words(b" at ");
-        self.number(place as u64);
+        self.number(halt.place as u64);
         self.byte(b'\n');
     }
 
