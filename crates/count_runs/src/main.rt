@@ -2,15 +2,14 @@
 #![tactic(auto)]
 
 use monitor::Monitor;
-use print::ROOM;
-use rules::{Late, Tally};
+use print::Page;
+use rules::{Late, PLACES, Tally};
+use std::fmt::Write;
 
 fn one_more(count: u32) {
-    let mut out = [0u8; ROOM];
-    let n = print::number(&mut out, 0, count as u64);
-    let n = print::words(&mut out, n, b" and one more -> ");
-    let n = print::number(&mut out, n, monitor::up(count) as u64);
-    show::send(&mut out, n);
+    let mut page = Page::new();
+    let _ = write!(page, "{count} and one more -> {}", monitor::up(count));
+    show::send(&mut page);
 }
 
 // The same tally for every task.
@@ -20,7 +19,7 @@ fn set(late: u32, ended: u32, response: u64) -> Monitor {
             late,
             ended,
             response,
-        }; 32],
+        }; PLACES],
     }
 }
 
@@ -28,32 +27,28 @@ fn set(late: u32, ended: u32, response: u64) -> Monitor {
 fn late(monitor: Monitor, jobs: u8, task: u8) -> Monitor {
     let late = Late {
         count: jobs,
-        tasks: [task; 32],
+        tasks: [task; PLACES],
     };
     monitor::with_late(monitor, late)
 }
 
 // What is counted of the first task and the last.
 fn shown(text: &[u8], monitor: Monitor) {
-    let tallies = monitor.tallies;
-    let first = tallies[0];
-    let last = tallies[31];
-    let mut out = [0u8; ROOM];
-    let n = print::words(&mut out, 0, text);
-    let n = print::words(&mut out, n, b" -> ");
-    let n = show::tally(&mut out, n, first);
-    let n = print::words(&mut out, n, b", ");
-    let n = show::tally(&mut out, n, last);
-    show::send(&mut out, n);
+    let [first, .., last] = monitor.tallies;
+    let mut page = Page::new();
+    page.words(text);
+    page.words(b" -> ");
+    show::tally(&mut page, first);
+    page.words(b", ");
+    show::tally(&mut page, last);
+    show::send(&mut page);
 }
 
 fn counts() {
     show::heading(b"a count and one more");
-    one_more(0);
-    one_more(1);
-    one_more(4294967293);
-    one_more(4294967294);
-    one_more(4294967295);
+    for count in [0, 1, 4294967293, 4294967294, 4294967295] {
+        one_more(count);
+    }
 }
 
 fn late_jobs() {

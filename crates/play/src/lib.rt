@@ -2,280 +2,243 @@
 #![tactic(auto)]
 
 ghost use Rattle.scheduler.specs.State.{Handed};
-ghost use Rattle.play.specs.Run.{Kept};
 
 use jobs::JobList;
-use kernel::Found;
 use monitor::Monitor;
-use print::ROOM;
-use rules::{Answer, Choice, Job, Phase, Tick, Verdict};
+use print::Page;
+use rules::{Answer, Job, Phase, Running, Tick, Verdict};
 use scheduler::State;
 use table::TaskTable;
 
-// How far the lines went: the state, whether calls may be made on it, and whether an answer stands alone on its line.
+// A state that calls are made on, and whether an answer stands alone on its line.
 #[derive(Clone, Copy)]
 struct Run {
     state: State,
-    on: bool,
     bare: bool,
+    ghost handed: { Handed state },
 }
 
 // ---- the list
 
-fn phase(out: &mut [u8; ROOM], at: usize, phase: Phase) -> usize {
-    match phase {
-        Phase::Delayed => print::words(out, at, b" delayed"),
-        Phase::Released => print::words(out, at, b" released"),
-    }
-}
-
 // A pending job: its task and deadline, and whether it is delayed or released.
-fn job(out: &mut [u8; ROOM], at: usize, job: Job) -> usize {
-    let n = print::words(out, at, b", ");
-    let n = print::two(out, n, job.task as u64, job.due.0);
-    let now = job.phase;
-    phase(out, n, now)
+fn job(page: &mut Page, job: Job) {
+    page.words(b", ");
+    page.two(job.task as u64, job.due.0);
+    match job.phase {
+        Phase::Delayed => page.words(b" delayed"),
+        Phase::Released => page.words(b" released"),
+    }
 }
 
 // The job that the kernel's dispatcher picks, as an answer shows it.
-fn picked(list: JobList, table: TaskTable) -> Choice {
-    let found = kernel::dispatch(list, table);
-    match found {
-        Found::Nothing => Choice::Idle,
-        Found::At(k) => {
-            if 32 <= k {
-                return Choice::Idle;
-            }
-            let jobs = list.jobs;
-            let job = jobs[k];
-            let due = job.due;
-            Choice::Runs(job.task, due)
-        }
-    }
+fn picked(list: JobList, table: TaskTable) -> Option<Running> {
+    let k = kernel::dispatch(list, table)?;
+    let job = list.jobs.get(k)?;
+    Some(Running {
+        task: job.task,
+        due: job.due,
+    })
 }
 
 // The last accepted tick, the pending jobs, and the one that the dispatcher picks.
-fn listed(list: JobList, last: Tick, choice: Choice) {
-    let jobs = list.jobs;
-    let count = list.count;
-    let mut out = [0u8; ROOM];
-    let mut n = print::words(&mut out, 0, b"list -> last ");
-    n = print::number(&mut out, n, last.0);
-    let mut i = 0;
-    while i < count {
-        if 32 <= i {
-            return;
-        }
-        let next = jobs[i];
-        n = job(&mut out, n, next);
-        i += 1;
+fn listed(list: JobList, last: Tick, choice: Option<Running>) {
+    let mut page = Page::new();
+    page.words(b"list -> last ");
+    page.number(last.0);
+    for next in list.jobs.iter().take(list.count) {
+        job(&mut page, *next);
     }
-    n = print::words(&mut out, n, b"; kernel ");
-    n = print::running(&mut out, n, choice);
-    show::send(&mut out, n);
+    page.words(b"; kernel ");
+    page.running(choice);
+    show::send(&mut page);
 }
 
 // ---- counts
 
 // What is counted of each task, one behind the other.
 fn counts(monitor: Monitor, tasks: usize) {
-    let tallies = monitor.tallies;
-    let mut out = [0u8; ROOM];
-    let mut n = print::words(&mut out, 0, b"counts");
-    let mut i = 0;
-    while i < tasks {
-        if 32 <= i {
-            return;
-        }
+    let mut page = Page::new();
+    page.words(b"counts");
+    for (i, tally) in monitor.tallies.iter().take(tasks).enumerate() {
         if 0 < i {
-            n = print::byte(&mut out, n, b',');
+            page.byte(b',');
         }
-        n = print::byte(&mut out, n, b' ');
-        let tally = tallies[i];
-        n = show::tally(&mut out, n, tally);
-        i += 1;
+        page.byte(b' ');
+        show::tally(&mut page, *tally);
     }
-    show::send(&mut out, n);
+    show::send(&mut page);
 }
 
 // ---- calls
 
 // The words in front of an answer.
-fn asked(out: &mut [u8; ROOM], text: &[u8]) -> usize {
-    let n = print::words(out, 0, text);
-    print::words(out, n, b" -> ")
+fn page_of(text: &[u8]) -> Page {
+    let mut page = Page::new();
+    page.words(text);
+    page.words(b" -> ");
+    page
 }
 
 fn told(text: &[u8], bare: bool, at: Tick, answer: Answer) {
-    let mut out = [0u8; ROOM];
-    let mut n = 0;
-    if !bare {
-        n = asked(&mut out, text);
-    }
-    n = print::answer(&mut out, n, at, answer);
-    show::send(&mut out, n);
+    let mut page = if bare { Page::new() } else { page_of(text) };
+    page.answer(at, answer);
+    show::send(&mut page);
 }
 
 // 'why 2': why the task's first pending job does or does not run.
-fn waits(s: State, text: &[u8])
-    requires { Handed s }
-{
-    let task = script::task_at(text, 0);
-    let why = lent::why(s, task);
-    let mut out = [0u8; ROOM];
-    let n = asked(&mut out, text);
-    let n = reasons::why(&mut out, n, task, why);
-    show::send(&mut out, n);
+fn waits(run: Run, text: &[u8]) {
+    let task = script::task_of(text);
+    let mut page = page_of(text);
+    reasons::why(&mut page, task, lent::why(run.state, task));
+    show::send(&mut page);
 }
 
-// 'list', 'counts' and 'why', told by their third letter, show the state; any other line is a call, which is made and printed.
-fn step(s: State, text: &[u8], bare: bool) -> State
-    requires { Handed s }
-    ensures { Handed result }
-{
-    let letter = script::byte_at(text, 2);
-    if letter == b's' {
-        let choice = picked(s.list, s.table);
-        listed(s.list, s.last, choice);
-        return s;
+// A call is made and printed.
+fn called(run: Run, text: &[u8]) -> Run {
+    let call = script::call_of(text);
+    let stepped = lent::call(run.state, call);
+    told(text, run.bare, records::tick_of(call), stepped.answer);
+    Run {
+        state: stepped.state,
+        bare: run.bare,
     }
-    if letter == b'u' {
-        counts(s.monitor, s.table.count);
-        return s;
-    }
-    if letter == b'y' {
-        waits(s, text);
-        return s;
-    }
-    let call = script::call_at(text, 0);
-    let r = lent::call(s, call);
-    let answer = r.answer;
-    told(text, bare, records::tick_of(call), answer);
-    let next = r.state;
-    next
 }
 
 fn no_table(text: &[u8]) {
-    let mut out = [0u8; ROOM];
-    let n = asked(&mut out, text);
-    let n = print::words(&mut out, n, b"no table");
-    show::send(&mut out, n);
-}
-
-// A line on the state, if there is one.
-fn stepped(run: Run, text: &[u8]) -> Run
-    requires { Kept run }
-    ensures { Kept result }
-{
-    if run.on {
-        let state = step(run.state, text, run.bare);
-        return Run {
-            state,
-            on: true,
-            bare: run.bare,
-        };
-    }
-    no_table(text);
-    run
+    let mut page = page_of(text);
+    page.words(b"no table");
+    show::send(&mut page);
 }
 
 // ---- tables
 
 // What the place for the state holds after the check: how many lines and jobs, and the last accepted tick.
-fn fresh(out: &mut [u8; ROOM], at: usize, s: State) -> usize {
-    let n = print::words(out, at, b"lines and jobs ");
-    let n = print::two(out, n, s.table.count as u64, s.list.count as u64);
-    let n = print::words(out, n, b", last tick ");
-    print::number(out, n, s.last.0)
+fn fresh(page: &mut Page, state: State) {
+    page.words(b"lines and jobs ");
+    page.two(state.table.count as u64, state.list.count as u64);
+    page.words(b", last tick ");
+    page.number(state.last.0);
 }
 
-// 'check 3 12 2, 5 11 2': the check's answer; 'state 3 12 2, 5 11 2': the state instead.
+// 'check 3 12 2, 5 11 2': the check's answer.
 fn checked(text: &[u8]) {
-    let r = lent::check(script::table_of(text));
-    let mut out = [0u8; ROOM];
-    let n = asked(&mut out, text);
-    if script::byte_at(text, 0) == b's' {
-        let n = fresh(&mut out, n, r.state);
-        show::send(&mut out, n);
-        return;
-    }
-    let n = print::verdict(&mut out, n, r.verdict);
-    show::send(&mut out, n);
+    let mut page = page_of(text);
+    page.verdict(lent::check(script::table_of(text)).verdict);
+    show::send(&mut page);
+}
+
+// 'state 3 12 2, 5 11 2': the state that the check leaves.
+fn left(text: &[u8]) {
+    let mut page = page_of(text);
+    fresh(&mut page, lent::check(script::table_of(text)).state);
+    show::send(&mut page);
 }
 
 fn refused(verdict: Verdict) {
-    let mut out = [0u8; ROOM];
-    let n = print::verdict(&mut out, 0, verdict);
-    show::send(&mut out, n);
+    let mut page = Page::new();
+    page.verdict(verdict);
+    show::send(&mut page);
 }
 
-// A run from a fresh state: 'lines 3 12 2, 5 11 2' is printed; 'printed 3 12 2, 5 11 2' is not, and its run is bare, with the header above it.
-fn begun(text: &[u8], bare: bool) -> Run
-    ensures { Kept result }
-{
+// A run from a fresh state: 'lines 3 12 2, 5 11 2' is printed; 'printed 3 12 2, 5 11 2' is not, and its run is bare, with the header above it. None from a
+// refused table.
+fn begun(text: &[u8], bare: bool) -> Option<Run> {
     if !bare {
         show::say(text);
     }
-    let r = lent::check(script::table_of(text));
-    let verdict = r.verdict;
-    let state = r.state;
-    if verdict.number != 0 {
-        refused(verdict);
-        return Run {
-            state,
-            on: false,
-            bare,
-        };
+    let checked = lent::check(script::table_of(text));
+    if checked.verdict.number != 0 {
+        refused(checked.verdict);
+        return None;
     }
     if bare {
         show::header();
     }
-    Run {
-        state,
-        on: true,
+    Some(Run {
+        state: checked.state,
         bare,
-    }
+    })
 }
 
 // ---- lines
 
-// A line of words. One that begins with a small letter is answered, any other printed as it stands. 'printed' and 'state' are told by their first letter, the other words by their third.
-fn line_of(run: Run, text: &[u8]) -> Run
-    requires { Kept run }
-    ensures { Kept result }
-{
+// What a line asks for.
+enum Asked {
+    Nothing,
+    Begin { bare: bool },
+    Check,
+    State,
+    List,
+    Counts,
+    Why,
+    Call,
+}
+
+// A line that begins with a small letter asks for something. 'printed' and 'state' are told by their first letter, the other words by their third.
+fn asked(text: &[u8]) -> Asked {
     let first = script::byte_at(text, 0);
-    let third = script::byte_at(text, 2);
     if first < b'a' {
-        show::say(text);
-        return run;
+        return Asked::Nothing;
     }
-    if first == b'p' {
-        return begun(text, true);
+    match (first, script::byte_at(text, 2)) {
+        (b'p', _) => Asked::Begin { bare: true },
+        (_, b'n') => Asked::Begin { bare: false },
+        (b's', _) => Asked::State,
+        (_, b'e') => Asked::Check,
+        (_, b's') => Asked::List,
+        (_, b'u') => Asked::Counts,
+        (_, b'y') => Asked::Why,
+        _ => Asked::Call,
     }
-    if third == b'n' {
-        return begun(text, false);
+}
+
+// A line on a state: a call changes it, any other line shows it.
+fn step(run: Run, line: Asked, text: &[u8]) -> Run {
+    let state = run.state;
+    match line {
+        Asked::List => listed(state.list, state.last, picked(state.list, state.table)),
+        Asked::Counts => counts(state.monitor, state.table.count),
+        Asked::Why => waits(run, text),
+        _ => return called(run, text),
     }
-    if first == b's' || third == b'e' {
-        checked(text);
-        return run;
+    run
+}
+
+// A line on the state, if there is one.
+fn stepped(run: Option<Run>, line: Asked, text: &[u8]) -> Option<Run> {
+    match run {
+        Some(run) => Some(step(run, line, text)),
+        None => {
+            no_table(text);
+            None
+        }
     }
-    stepped(run, text)
+}
+
+// A line of words. One that asks for nothing is printed as it stands.
+fn line_of(run: Option<Run>, text: &[u8]) -> Option<Run> {
+    match asked(text) {
+        Asked::Nothing => {
+            show::say(text);
+            run
+        }
+        Asked::Begin { bare } => begun(text, bare),
+        Asked::Check => {
+            checked(text);
+            run
+        }
+        Asked::State => {
+            left(text);
+            run
+        }
+        line => stepped(run, line, text),
+    }
 }
 
 // The lines of a text.
 pub fn lines(text: &[u8]) {
-    let r = scheduler::check(table::empty());
-    let state = r.state;
-    let mut run = Run {
-        state,
-        on: false,
-        bare: false,
-    };
-    let mut i = 0;
-    while i < text.len() {
-        let end = script::find(text, i, b'\n');
-        run = line_of(run, &text[i..end]);
-        i = end + 1;
+    let mut run = None;
+    for line in script::split(text, b'\n') {
+        run = line_of(run, line);
     }
 }
