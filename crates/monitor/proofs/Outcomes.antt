@@ -1,9 +1,9 @@
 -- One outcome: any two that satisfy what the source of a public function ensures are equal. A field for each. Assumes nothing.
 use Rattle.rules.proofs.Outcome.{OneStated, only}
-use Rattle.monitor.proofs.none.Reads as none
+use Rattle.monitor.proofs.Monitor.none.Reads as none
 use Rattle.monitor.proofs.up.Reads as up
-use Rattle.monitor.proofs.with_late.Reads as with_late
-use Rattle.monitor.proofs.with_ended.Reads as with_ended
+use Rattle.monitor.proofs.Monitor.with_late.Reads as with_late
+use Rattle.monitor.proofs.Monitor.with_ended.Reads as with_ended
 
 pub record Outcomes : Type 0 where
   none : OneStated none.Post

@@ -1,14 +1,11 @@
 // Monitoring: what is counted of each task.
 #![tactic(auto)]
 
-ghost use Rattle.std.specs.Prelude.{◌≡◌, cond, max};
-ghost use Rattle.rules.specs.Counts.{no_tallies, up, late_more, ended_more, on_task, with_late};
-ghost use Rattle.monitor.specs.Tallies.{counts, tasks_of};
+ghost use Rattle.std.specs.Prelude.{◌≡◌};
+ghost use Rattle.rules.specs.Counts.{no_tallies, up, late_more, ended_more, with_late};
+ghost use Rattle.monitor.specs.Tallies.{counts, tasks_of, with_end};
 
 use rules::{Late, PLACES, Tally};
-
-// Where the two counts stand still.
-const MOST: u32 = 4294967295;
 
 // A tally for each task number.
 #[repr(C)]
@@ -17,37 +14,18 @@ pub struct Monitor {
     pub tallies: [Tally; PLACES],
 }
 
-// Nothing counted yet.
-pub fn none() -> Monitor
-    ensures { result ≡ counts no_tallies }
-{
-    Monitor {
-        tallies: [Tally {
-            late: 0,
-            ended: 0,
-            response: 0,
-        }; PLACES],
-    }
+// An ended job: its task, and its response.
+#[derive(Clone, Copy)]
+pub struct Ended {
+    pub task: u8,
+    pub response: u64,
 }
 
 // One more, up to where counts stand still.
 pub fn up(count: u32) -> u32
     ensures { result ≡ up count }
 {
-    if count < MOST {
-        return count + 1;
-    }
-    count
-}
-
-// The greater of two.
-fn greater(x: u64, y: u64) -> u64
-    ensures { result ≡ max x y }
-{
-    if x < y {
-        return y;
-    }
-    x
+    count.saturating_add(1)
 }
 
 // One more late job.
@@ -68,42 +46,50 @@ fn ended_more(tally: Tally, response: u64) -> Tally
     Tally {
         late: tally.late,
         ended: up(tally.ended),
-        response: greater(tally.response, response),
+        response: tally.response.max(response),
     }
 }
 
-// The newly late jobs counted, each for its task.
-pub fn with_late(monitor: Monitor, late: Late) -> Monitor
-    ensures { result ≡ counts (with_late (tasks_of late) monitor.tallies) }
-{
-    let n = late.count as usize;
-    let mut tallies = monitor.tallies;
-    let mut i = 0;
-    while i < n {
-        if PLACES <= i {
-            return Monitor { tallies };
+impl Monitor {
+    // Nothing counted yet.
+    pub fn none() -> Monitor
+        ensures { result ≡ counts no_tallies }
+    {
+        Monitor {
+            tallies: [Tally {
+                late: 0,
+                ended: 0,
+                response: 0,
+            }; PLACES],
         }
-        let t = late.tasks[i] as usize;
-        if t < PLACES {
-            let tally = tallies[t];
-            tallies[t] = late_more(tally);
-        }
-        i += 1;
     }
-    Monitor { tallies }
-}
 
-// A job of a task ended, with its response; where none did, nothing is counted.
-pub fn with_ended(monitor: Monitor, ends: bool, task: u8, response: u64) -> Monitor
-    ensures { result ≡ counts (cond ends (on_task task (ended_more response) monitor.tallies) monitor.tallies) }
-{
-    let mut tallies = monitor.tallies;
-    let t = task as usize;
-    if ends {
-        if t < PLACES {
-            let tally = tallies[t];
-            tallies[t] = ended_more(tally, response);
+    // The newly late jobs counted, each for its task.
+    pub fn with_late(self, late: Late) -> Monitor
+        ensures { result ≡ counts (with_late (tasks_of late) self.tallies) }
+    {
+        let n = (late.count as usize).min(PLACES);
+        let mut tallies = self.tallies;
+        for task in &late.tasks[..n] {
+            let t = *task as usize;
+            if t < PLACES {
+                tallies[t] = late_more(tallies[t]);
+            }
         }
+        Monitor { tallies }
     }
-    Monitor { tallies }
+
+    // A job ended; where none did, nothing is counted.
+    pub fn with_ended(self, ended: Option<Ended>) -> Monitor
+        ensures { result ≡ counts (with_end ended self.tallies) }
+    {
+        let mut tallies = self.tallies;
+        if let Some(job) = ended {
+            let t = job.task as usize;
+            if t < PLACES {
+                tallies[t] = ended_more(tallies[t], job.response);
+            }
+        }
+        Monitor { tallies }
+    }
 }
