@@ -7,6 +7,7 @@ ghost use Rattle.std.specs.List.{position};
 ghost use Rattle.script.specs.Texts.{IsFirstPart};
 
 use rules::{Call, Line, PLACES, Span, Tick};
+use std::fmt;
 use table::TaskTable;
 
 // ---- parts of a text
@@ -265,6 +266,15 @@ impl<const N: usize> Room<N> {
         }
     }
 
+    // Bytes one behind the other.
+    pub fn extend(&mut self, bytes: &[u8])
+        ensures { self.old.len ≤ self.new.len }
+    {
+        for b in bytes {
+            self.push(*b);
+        }
+    }
+
     // 'EE', '12*EE': the byte that a word ends in. A word of one letter is no byte.
     fn word(&mut self, word: &[u8])
         ensures { self.old.len ≤ self.new.len }
@@ -288,6 +298,13 @@ impl<const N: usize> Room<N> {
                 self.word(word);
             }
         }
+    }
+}
+
+impl<const N: usize> fmt::Write for Room<N> {
+    fn write_str(&mut self, s: &str) -> fmt::Result {
+        self.extend(s.as_bytes());
+        Ok(())
     }
 }
 
