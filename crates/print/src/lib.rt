@@ -7,7 +7,7 @@ use std::fmt;
 // How many bytes a page has. What does not fit is left out.
 pub const ROOM: usize = 65536;
 
-// Bytes, and how many of them are put: a text goes behind them (specs/Buffers). The lines are methods, no `fmt::Display`: std promises nothing of the bytes that a `fmt` writes.
+// Bytes, and how many of them are put: a text goes behind them (specs/Buffers). The lines are methods, no `fmt::Display`: `write!` promises its text only where it gives Ok, and no clause says that it does; `Put` holds of each call.
 #[derive(Drop)]
 pub struct Page {
     pub bytes: [u8; ROOM],
