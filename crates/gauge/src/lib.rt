@@ -1,93 +1,99 @@
 // For the benchmark outside/cost: tapes and numbers gone through. Each function gives one number that depends on all that was done.
 #![tactic(auto)]
 
-use rules::{Answer, Call, Choice, NumberRead, Opening, RecordRead, Written};
+ghost use Rattle.std.specs.Iterator.{at_most};
 
-// A byte as a number.
-fn wide(b: u8) -> u64 {
-    b as u64
-}
-
-// A count as a number.
-fn long(n: usize) -> u64 {
-    n as u64
-}
+use rules::{Answer, Call, Running, TapeRefusal, Tick};
+use transcript::Run;
 
 // What runs, as one number.
-fn running_in(c: Choice) -> u64 {
-    match c {
-        Choice::Idle => 0,
-        Choice::Runs(task, due) => due.0 ^ wide(task),
+fn running_in(choice: Option<Running>) -> u64 {
+    match choice {
+        None => 0,
+        Some(running) => running.due.0 ^ u64::from(running.task),
     }
 }
 
 // An answer as one number.
 fn answer_in(a: Answer) -> u64 {
-    let running = a.running;
-    let late = a.late;
-    running_in(running) ^ wide(a.result) ^ wide(late.count)
+    running_in(a.running) ^ u64::from(a.result) ^ u64::from(a.late.count)
 }
 
 // A count of bytes written as one number.
-fn written_in(w: Written) -> u64 {
-    match w {
-        Written::Count(n) => long(n),
-        Written::Refused(number) => wide(number),
+fn written_in(answer: Result<usize, TapeRefusal>) -> u64 {
+    match answer {
+        Ok(n) => n as u64,
+        Err(refusal) => u64::from(u8::from(refusal)),
     }
 }
 
 // ---- tapes
 
+// The calls of a tape's records, to the end or a refusal. A tape has no more records than bytes.
+#[derive(Drop)]
+struct Records<'a> {
+    tape: &'a [u8],
+    at: usize,
+    preceding: Tick,
+    left: usize,
+}
+
+fn records_of(tape: &[u8], run: Run) -> Records<'_> {
+    Records {
+        tape,
+        at: run.at,
+        preceding: run.preceding,
+        left: tape.len(),
+    }
+}
+
+impl<'a> Iterator for Records<'a> {
+    type Item = Call;
+
+    ghost remaining = { λ s. at_most s.left };
+
+    fn next(&mut self) -> Option<Call> {
+        self.left = self.left.checked_sub(1)?;
+        let taken = records::read_record(self.tape, self.at, self.preceding).ok()??;
+        self.at = taken.next;
+        self.preceding = records::tick_of(taken.value);
+        Some(taken.value)
+    }
+}
+
 // A tape's records read and their calls made, by value, to the end or a refusal.
 #[unsafe(no_mangle)]
 pub extern "C" fn gauge_calls(tape: &[u8]) -> u64 {
-    let opened = transcript::open(tape);
-    let answer = opened.answer;
-    let Opening::Accepted = answer else {
+    let Ok(run) = transcript::open(tape) else {
         return 0;
     };
-    let run = opened.run;
     let mut state = run.state;
-    let mut at = run.at;
-    let mut preceding = run.preceding;
-    let mut seen: u64 = 0;
-    let mut left = tape.len();
-    while 0 < left {
-        let read = records::read_record(tape, at, preceding);
-        let RecordRead::Record { call, next } = read else {
-            return seen;
-        };
-        preceding = records::tick_of(call);
+    let mut seen = 0;
+    for call in records_of(tape, run) {
         // each call is stored where the state stands: one way for all four would copy it once more
         match call {
             Call::Wait(tick) => {
                 let r = scheduler::tick(state, tick);
                 state = r.state;
-                let told = r.answer;
-                seen = seen ^ answer_in(told);
+                seen ^= answer_in(r.answer);
             }
             Call::Activate(tick, task) => {
                 let r = scheduler::activate(state, tick, task);
                 state = r.state;
-                let told = r.answer;
-                seen = seen ^ answer_in(told);
+                seen ^= answer_in(r.answer);
             }
             Call::Terminate(tick) => {
                 let r = scheduler::terminate(state, tick);
                 state = r.state;
-                let told = r.answer;
-                seen = seen ^ answer_in(told);
+                seen ^= answer_in(r.answer);
             }
             Call::Chain(tick, task) => {
                 let r = scheduler::chain(state, tick, task);
                 state = r.state;
-                let told = r.answer;
-                seen = seen ^ answer_in(told);
+                seen ^= answer_in(r.answer);
             }
         }
-        at = next;
-        seen = seen ^ preceding.0;
-        left -= 1;
+        seen ^= records::tick_of(call).0;
     }
     seen
 }
@@ -95,64 +101,59 @@ pub extern "C" fn gauge_calls(tape: &[u8]) -> u64 {
 // The same without the calls.
 #[unsafe(no_mangle)]
 pub extern "C" fn gauge_records(tape: &[u8]) -> u64 {
-    let opened = transcript::open(tape);
-    let answer = opened.answer;
-    let Opening::Accepted = answer else {
+    let Ok(run) = transcript::open(tape) else {
         return 0;
     };
-    let run = opened.run;
-    let mut at = run.at;
-    let mut preceding = run.preceding;
-    let mut seen: u64 = 0;
-    let mut left = tape.len();
-    while 0 < left {
-        let read = records::read_record(tape, at, preceding);
-        let RecordRead::Record { call, next } = read else {
-            return seen;
-        };
-        at = next;
-        preceding = records::tick_of(call);
-        seen = seen ^ preceding.0;
-        left -= 1;
+    let mut seen = 0;
+    for call in records_of(tape, run) {
+        seen ^= records::tick_of(call).0;
     }
     seen
 }
 
 // ---- numbers
 
+// Numbers one behind the other, to the end or a refusal. There are no more of them than bytes.
+#[derive(Drop)]
+struct Numbers<'a> {
+    bytes: &'a [u8],
+    at: usize,
+    left: usize,
+}
+
+fn numbers_of(bytes: &[u8]) -> Numbers<'_> {
+    Numbers {
+        bytes,
+        at: 0,
+        left: bytes.len(),
+    }
+}
+
+impl<'a> Iterator for Numbers<'a> {
+    type Item = u64;
+
+    ghost remaining = { λ s. at_most s.left };
+
+    fn next(&mut self) -> Option<u64> {
+        self.left = self.left.checked_sub(1)?;
+        let taken = number::read_number(self.bytes, self.at).ok()?;
+        self.at = taken.next;
+        Some(taken.value)
+    }
+}
+
 // Numbers read one after the other, to the end or a refusal.
 #[unsafe(no_mangle)]
 pub extern "C" fn gauge_numbers(bytes: &[u8]) -> u64 {
-    let mut at = 0;
-    let mut seen: u64 = 0;
-    let mut left = bytes.len();
-    while 0 < left {
-        let read = number::read_number(bytes, at);
-        let NumberRead::Value { value, next } = read else {
-            return seen;
-        };
-        at = next;
-        seen = seen ^ value;
-        left -= 1;
-    }
-    seen
+    numbers_of(bytes).fold(0, |seen, value| seen ^ value)
 }
 
 // The same, and each is written to the buffer, from its first byte on.
 #[unsafe(no_mangle)]
 pub extern "C" fn gauge_written(bytes: &[u8], buf: &mut [u8]) -> u64 {
-    let mut at = 0;
-    let mut seen: u64 = 0;
-    let mut left = bytes.len();
-    while 0 < left {
-        let read = number::read_number(bytes, at);
-        let NumberRead::Value { value, next } = read else {
-            return seen;
-        };
-        let written = number::write_number(value, buf);
-        at = next;
-        seen = seen ^ value ^ written_in(written);
-        left -= 1;
+    let mut seen = 0;
+    for value in numbers_of(bytes) {
+        seen ^= value ^ written_in(number::write_number(value, buf));
     }
     seen
 }

@@ -22,7 +22,7 @@ fn labelled(label: &[u8], n: u64) {
 }
 
 fn refused(refusal: TapeRefusal) {
-    labelled(b" refused", refusal.number() as u64);
+    labelled(b" refused", u8::from(refusal) as u64);
 }
 
 fn next_place(next: usize) {
