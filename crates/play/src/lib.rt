@@ -2,6 +2,7 @@
 #![tactic(auto)]
 
 ghost use Rattle.scheduler.specs.State.{Handed};
+ghost use Rattle.play.specs.Run.{Kept};
 
 use jobs::JobList;
 use monitor::Monitor;
@@ -15,7 +16,6 @@ use table::TaskTable;
 struct Run {
     state: State,
     bare: bool,
-    ghost handed: { Handed state },
 }
 
 // ---- the list
@@ -86,7 +86,9 @@ fn told(text: &[u8], bare: bool, at: Tick, answer: Answer) {
 }
 
 // 'why 2': why the task's first pending job does or does not run.
-fn waits(run: Run, text: &[u8]) {
+fn waits(run: Run, text: &[u8])
+    requires { Handed run.state }
+{
     let task = script::task_of(text);
     let mut page = page_of(text);
     reasons::why(&mut page, task, lent::why(run.state, task));
@@ -94,7 +96,10 @@ fn waits(run: Run, text: &[u8]) {
 }
 
 // A call is made and printed.
-fn called(run: Run, text: &[u8]) -> Run {
+fn called(run: Run, text: &[u8]) -> Run
+    requires { Handed run.state }
+    ensures { Handed result.state }
+{
     let call = script::call_of(text);
     let stepped = lent::call(run.state, call);
     told(text, run.bare, records::tick_of(call), stepped.answer);
@@ -142,7 +147,9 @@ fn refused(verdict: Verdict) {
 
 // A run from a fresh state: 'lines 3 12 2, 5 11 2' is printed; 'printed 3 12 2, 5 11 2' is not, and its run is bare, with the header above it. None from a
 // refused table.
-fn begun(text: &[u8], bare: bool) -> Option<Run> {
+fn begun(text: &[u8], bare: bool) -> Option<Run>
+    ensures { Kept result }
+{
     if !bare {
         show::say(text);
     }
@@ -163,6 +170,7 @@ fn begun(text: &[u8], bare: bool) -> Option<Run> {
 // ---- lines
 
 // What a line asks for.
+#[derive(Clone, Copy)]
 enum Asked {
     Nothing,
     Begin { bare: bool },
@@ -175,7 +183,7 @@ enum Asked {
 }
 
 // A line that begins with a small letter asks for something. 'printed' and 'state' are told by their first letter, the other words by their third.
-fn asked(text: &[u8]) -> Asked {
+fn asked_by(text: &[u8]) -> Asked {
     let first = script::byte_at(text, 0);
     if first < b'a' {
         return Asked::Nothing;
@@ -193,7 +201,10 @@ fn asked(text: &[u8]) -> Asked {
 }
 
 // A line on a state: a call changes it, any other line shows it.
-fn step(run: Run, line: Asked, text: &[u8]) -> Run {
+fn step(run: Run, line: Asked, text: &[u8]) -> Run
+    requires { Handed run.state }
+    ensures { Handed result.state }
+{
     let state = run.state;
     match line {
         Asked::List => listed(state.list, state.last, picked(state.list, state.table)),
@@ -205,7 +216,10 @@ fn step(run: Run, line: Asked, text: &[u8]) -> Run {
 }
 
 // A line on the state, if there is one.
-fn stepped(run: Option<Run>, line: Asked, text: &[u8]) -> Option<Run> {
+fn stepped(run: Option<Run>, line: Asked, text: &[u8]) -> Option<Run>
+    requires { Kept run }
+    ensures { Kept result }
+{
     match run {
         Some(run) => Some(step(run, line, text)),
         None => {
@@ -216,8 +230,11 @@ fn stepped(run: Option<Run>, line: Asked, text: &[u8]) -> Option<Run> {
 }
 
 // A line of words. One that asks for nothing is printed as it stands.
-fn line_of(run: Option<Run>, text: &[u8]) -> Option<Run> {
-    match asked(text) {
+fn line_of(run: Option<Run>, text: &[u8]) -> Option<Run>
+    requires { Kept run }
+    ensures { Kept result }
+{
+    match asked_by(text) {
         Asked::Nothing => {
             show::say(text);
             run
