@@ -11,7 +11,7 @@ use Rattle.rules.specs.declared.Line.{Line}
 use Rattle.rules.specs.declared.Late.{Late}
 use Rattle.rules.specs.declared.Tally.{Tally}
 use Rattle.rules.specs.declared.Call.{Call}
-use Rattle.std.specs.Prelude.{Result, is_ok}
+use Rattle.std.specs.Prelude.{Result, is_ok, Option}
 use Rattle.rules.specs.Answers.{Choice, result_number}
 use Rattle.rules.specs.declared.KernelCall.{KernelCall}
 use Rattle.rules.specs.declared.KernelCall.TheVariants.{NoCall}
@@ -26,12 +26,13 @@ use Rattle.jobs.specs.Listed.{view, pack, Shaped, insert_due, first_in, release_
 use Rattle.jobs.proofs.Laid.{view_pack}
 use Rattle.jobs.proofs.Scans.{lead_with_lem}
 use Rattle.monitor.specs.declared.Monitor.{Monitor}
-use Rattle.monitor.specs.Tallies.{counts, tasks_of}
+use Rattle.monitor.specs.declared.Ended.{Ended}
+use Rattle.monitor.specs.Tallies.{counts, tasks_of, with_end}
 use Rattle.scheduler.specs.declared.State.{State}
 use Rattle.scheduler.specs.declared.Stepped.{Stepped}
 use Rattle.scheduler.specs.declared.Activation.{Activation}
 use Rattle.scheduler.specs.State.{Handed, step_of}
-use Rattle.scheduler.specs.Steps.{Allowed, Change, choice_of, choice_in, settle_of, asked_by, asked_of, response_in, late_counted, tallied_in, refused_of, accepted_of}
+use Rattle.scheduler.specs.Steps.{Allowed, Change, choice_of, choice_in, settle_of, asked_by, asked_of, ended_if, response_in, late_counted, tallied_in, refused_of, accepted_of}
 use Rattle.scheduler.proofs.Rows.{allowed_in, refusal_in, ok_at_0}
 use Rattle.scheduler.proofs.Whole.{late_of, accepted_in}
 use Rattle.scheduler.proofs.Handed.{handed_refused, handed_accepted}
@@ -107,9 +108,9 @@ pub same_if : (b : Bool) (c : Monitor) → c ≡ cond b c c
 same_if true c = refl
 same_if false c = refl
 
-pub ended_if : (b : Bool) (n k : ℕ) (c : List Tally) → counts (cond b (on_task n (ended_more (cond b k 0)) c) c) ≡ cond b (counts (on_task n (ended_more k) c)) (counts c)
-ended_if true n k c = refl
-ended_if false n k c = refl
+pub end_if : (b : Bool) (n k : ℕ) (c : List Tally) → counts (with_end (ended_if b n k) c) ≡ cond b (counts (on_task n (ended_more k) c)) (counts c)
+end_if true n k c = refl
+end_if false n k c = refl
 
 -- a job leads a list whether it is released or not
 led_same : (ys : List Entry) → choice_in (release_first ys) ≡ choice_in ys
@@ -139,15 +140,15 @@ unfolding late_counted
 reported_if b late s c e = e ∙ same_if b (late_counted late s.monitor)
 
 -- where the first job ends
-pub tallied_if : (b : Bool) (s : State) (t : Tick) (late : Late) (x : Entry) (y : Line) (k : ℕ) (r c : Monitor) → x ≡ first_in (view s.list) → y ≡ line_at s.table.lines x.task
-    → k ≡ cond b (response_by t x.due y.deadline) 0 → r ≡ counts (with_late (tasks_of late) s.monitor.tallies) → c ≡ counts (cond b (on_task x.task (ended_more k) r.tallies) r.tallies)
+pub tallied_if : (b : Bool) (s : State) (t : Tick) (late : Late) (x : Entry) (y : Line) (o : Option Ended) (r c : Monitor) → x ≡ first_in (view s.list) → y ≡ line_at s.table.lines x.task
+    → o ≡ ended_if b x.task (response_by t x.due y.deadline) → r ≡ counts (with_late (tasks_of late) s.monitor.tallies) → c ≡ counts (with_end o r.tallies)
     → c ≡ cond b (tallied_in s.table (view s.list) t (late_counted late s.monitor)) (late_counted late s.monitor)
 unfolding late_counted tallied_in response_in
-tallied_if b s t late x y k r c e l f g q =
-    let w : k ≡ cond b (response_in s.table (first_in (view s.list)) t) 0 =
-    f ∙ ap (λ (z : Line). cond b (response_by t x.due z.deadline) 0) l ∙ ap (λ (z : Entry). cond b (response_in s.table z t) 0) e in
-    q ∙ (λ i. counts (cond b (on_task (e i).task (ended_more (w i)) (g i).tallies) (g i).tallies))
-    ∙ ended_if b (first_in (view s.list)).task (response_in s.table (first_in (view s.list)) t) (late_counted late s.monitor).tallies
+tallied_if b s t late x y o r c e l f g q =
+    let w : o ≡ ended_if b (first_in (view s.list)).task (response_in s.table (first_in (view s.list)) t) =
+    f ∙ ap (λ (z : Line). ended_if b x.task (response_by t x.due z.deadline)) l ∙ ap (λ (z : Entry). ended_if b z.task (response_in s.table z t)) e in
+    q ∙ (λ i. counts (with_end (w i) (g i).tallies))
+    ∙ end_if b (first_in (view s.list)).task (response_in s.table (first_in (view s.list)) t) (late_counted late s.monitor).tallies
 
 pub none_if : (b : Bool) → NoCall ≡ cond b NoCall NoCall
 none_if true = refl

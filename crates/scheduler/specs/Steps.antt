@@ -23,6 +23,7 @@ use Rattle.table.specs.Lines.{line_at}
 use Rattle.jobs.specs.declared.JobList.{JobList}
 use Rattle.jobs.specs.Listed.{view, pack, is_earlier, is_first_in, insert_due, first_in, release_first, lead_of, pending_of, late_in}
 use Rattle.monitor.specs.declared.Monitor.{Monitor}
+use Rattle.monitor.specs.declared.Ended.{Ended}
 use Rattle.monitor.specs.Tallies.{counts, tasks_of}
 use Rattle.scheduler.specs.declared.State.{State}
 use Rattle.scheduler.specs.declared.Stepped.{Stepped}
@@ -148,6 +149,10 @@ reason_of n (Some a) (Some r) =
 -- no relative deadline is above the longest
 pub record Short (t : TaskTable) : Type 0 where
   pub deadlines : (n : ℕ) → (line_at t.lines n).deadline.0 ≤ 1000000000
+
+-- a job of task n that ends, with its response, where the call is accepted
+abbrev pub ended_if : Bool → ℕ → ℕ → Option Ended
+ended_if accepted n k = cond accepted (Some (record { task = n; response = k })) None
 
 -- the response of a job that ends at a tick
 unfoldable pub response_in : TaskTable → Entry → Tick → ℕ

@@ -9,12 +9,12 @@ ghost use Rattle.ticks.specs.Ticks.{response_by};
 ghost use Rattle.jobs.specs.Listed.{Shaped};
 ghost use Rattle.rules.specs.Answers.{result_number};
 ghost use Rattle.rules.specs.Table.{greatest};
-ghost use Rattle.scheduler.specs.Steps.{fresh_of, choice_of, asked_by, in_time, some_job, known, below_limit, some_place, in_reach, activate_refusal, terminate_refusal, chain_refusal, job_as, entry_call, settle_of, reason_of};
+ghost use Rattle.scheduler.specs.Steps.{fresh_of, choice_of, asked_by, in_time, some_job, known, below_limit, some_place, in_reach, activate_refusal, terminate_refusal, chain_refusal, job_as, entry_call, settle_of, reason_of, ended_if};
 ghost use Rattle.scheduler.specs.State.{Handed, CheckGives, CallGives, why_of};
 ghost use Rattle.scheduler.specs.Claims.{Claims};
 
 use jobs::JobList;
-use monitor::Monitor;
+use monitor::{Ended, Monitor};
 use rules::{
     Answer, Call, CallRefusal, Job, KernelCall, Line, PLACES, Phase, Reason, Running, Tick, Verdict,
 };
@@ -79,7 +79,7 @@ fn fresh(table: TaskTable) -> State
         table,
         last: Tick(0),
         list: JobList::empty(),
-        monitor: monitor::none(),
+        monitor: Monitor::none(),
     }
 }
 
@@ -105,7 +105,7 @@ pub fn tick(s: State, at: Tick) -> Stepped
         table: s.table,
         last: now,
         list: s.list,
-        monitor: monitor::with_late(s.monitor, late),
+        monitor: s.monitor.with_late(late),
     };
     Stepped { state, answer }
 }
@@ -133,7 +133,7 @@ pub fn activate(s: State, at: Tick, task: u8) -> Stepped
     let state = State {
         table: s.table,
         last: now,
-        monitor: monitor::with_late(s.monitor, late),
+        monitor: s.monitor.with_late(late),
         list: s.list.insert(job, accepted),
     };
     Stepped { state, answer }
@@ -150,7 +150,7 @@ pub fn terminate(s: State, at: Tick) -> Stepped
     let late = s.list.newly_late(s.last, now);
     let first = s.list.first();
     let line = table::line_of(s.table, first.task);
-    let response = response_of(line, first, at, accepted);
+    let ended = ended(line, first, at, accepted);
     let lead = s.list.front(accepted);
     let answer = Answer {
         result: number_of(allowed),
@@ -158,11 +158,11 @@ pub fn terminate(s: State, at: Tick) -> Stepped
         call: settle_call(lead, accepted),
         late,
     };
-    let reported = monitor::with_late(s.monitor, late);
+    let reported = s.monitor.with_late(late);
     let state = State {
         table: s.table,
         last: now,
-        monitor: monitor::with_ended(reported, accepted, first.task, response),
+        monitor: reported.with_ended(ended),
         list: s.list.remove_first(accepted),
     };
     Stepped { state, answer }
@@ -180,7 +180,7 @@ pub fn chain(s: State, at: Tick, task: u8) -> Stepped
     let accepted = allowed.is_ok();
     let now = moved(s.last, at, accepted);
     let late = s.list.newly_late(s.last, now);
-    let response = response_of(lines.other, first, at, accepted);
+    let ended = ended(lines.other, first, at, accepted);
     let job = new.job(Phase::Delayed);
     let lead = jobs::front_with(s.list.front(accepted), job, accepted);
     let answer = Answer {
@@ -189,11 +189,11 @@ pub fn chain(s: State, at: Tick, task: u8) -> Stepped
         call: settle_call(lead, accepted),
         late,
     };
-    let reported = monitor::with_late(s.monitor, late);
+    let reported = s.monitor.with_late(late);
     let state = State {
         table: s.table,
         last: now,
-        monitor: monitor::with_ended(reported, accepted, first.task, response),
+        monitor: reported.with_ended(ended),
         list: s.list.replace_first(job, accepted),
     };
     Stepped { state, answer }
@@ -383,9 +383,9 @@ fn moved(last: Tick, at: Tick, accepted: bool) -> Tick
 fn running(lead: Option<Job>) -> Option<Running>
     ensures { result ≡ choice_of lead }
 {
-    lead.map(|job| Running {
-        task: job.task,
-        due: job.due,
+    lead.map(|first| Running {
+        task: first.task,
+        due: first.due,
     })
 }
 
@@ -415,15 +415,15 @@ fn settle_call(lead: Option<Job>, accepted: bool) -> KernelCall
     }
 }
 
-// The response of a job that ends at a tick; 0 where it doesn't end.
-fn response_of(line: Line, job: Job, at: Tick, accepted: bool) -> u64
+// The job that ends at a tick, with its response; none where the call is refused.
+fn ended(line: Line, job: Job, at: Tick, accepted: bool) -> Option<Ended>
     requires { (line.deadline.0 ≤ 1000000000) × (accepted ≡ true → at.0 ≤ greatest.0) }
-    ensures { result ≡ cond accepted (response_by at job.due line.deadline) 0 }
+    ensures { result ≡ ended_if accepted job.task (response_by at job.due line.deadline) }
 {
-    if !accepted {
-        return 0;
-    }
-    ticks::response(at, job.due, line.deadline)
+    accepted.then(|| Ended {
+        task: job.task,
+        response: ticks::response(at, job.due, line.deadline),
+    })
 }
 
 // Does nothing. Its contract is all of specs/Claims, so that a claim without a proof fails the check.

@@ -42,9 +42,9 @@ pub newly_late-late-requires : goal.newly_late-late-requires
 newly_late-late-requires c =
     (handed_shaped c.args.s c.requires, handed_sorted c.args.s c.requires)
 
-pub response_of-response-requires : goal.response_of-response-requires
-response_of-response-requires c =
-    (rw (ap (λ (x : LinePair). x.other) c.lines_of-lines.ensures) ((handed_short c.args.s c.requires).deadlines c.first-first.result.task), λ t. (ends (goal.at.response_of-response-requires c).After-is_ok-accepted t).in_time)
+pub ended-ended-requires : goal.ended-ended-requires
+ended-ended-requires c =
+    (rw (ap (λ (x : LinePair). x.other) c.lines_of-lines.ensures) ((handed_short c.args.s c.requires).deadlines c.first-first.result.task), λ t. (ends (goal.at.ended-ended-requires c).After-is_ok-accepted t).in_time)
 
 pub replace_first-requires : goal.replace_first-requires
 replace_first-requires c =
@@ -67,7 +67,7 @@ returns c =
       time = c.moved-now.ensures;
       lates = c.newly_late-late.ensures;
       jobs = list_if ok (release_first (insert_due job (drop 1 xs))) s.list _ (handed_shaped s c.requires) c.replace_first.ensures ∙ ap (λ (x : Job). cond ok (pack (release_first (insert_due x (drop 1 xs)))) s.list) j;
-      tallies = tallied_if ok s c.args.at c.newly_late-late.result c.first-first.result c.lines_of-lines.result.other c.response_of-response.result c.with_late-reported.result _ c.first-first.ensures (ap (λ (x : LinePair). x.other) c.lines_of-lines.ensures) c.response_of-response.ensures c.with_late-reported.ensures c.with_ended.ensures;
+      tallies = tallied_if ok s c.args.at c.newly_late-late.result c.first-first.result c.lines_of-lines.result.other c.ended-ended.result c.with_late-reported.result _ c.first-first.ensures (ap (λ (x : LinePair). x.other) c.lines_of-lines.ensures) c.ended-ended.ensures c.with_late-reported.ensures c.with_ended.ensures;
       runs = c.running.ensures ∙ ap choice_of l ∙ leaves_if ok xs (insert_due job (drop 1 xs)) ∙ runs_if (cond ok (release_first (insert_due job (drop 1 xs))) xs) _ c.replace_first.ensures;
       calls = c.settle_call.ensures ∙ ap (λ (x : Option Job). cond ok (settle_of x) NoCall) l ∙ settles_if ok xs (insert_due job (drop 1 xs)) ∙ ap (λ (x : Job). cond ok (settle_of (lead_of (insert_due x (drop 1 xs)))) NoCall) j;
     }))

@@ -24,9 +24,9 @@ pub newly_late-late-requires : goal.newly_late-late-requires
 newly_late-late-requires c =
     (handed_shaped c.args.s c.requires, handed_sorted c.args.s c.requires)
 
-pub response_of-response-requires : goal.response_of-response-requires
-response_of-response-requires c =
-    (rw c.line_of-line.ensures ((handed_short c.args.s c.requires).deadlines c.first-first.result.task), λ t. (ends (goal.at.response_of-response-requires c).After-is_ok-accepted t).in_time)
+pub ended-ended-requires : goal.ended-ended-requires
+ended-ended-requires c =
+    (rw c.line_of-line.ensures ((handed_short c.args.s c.requires).deadlines c.first-first.result.task), λ t. (ends (goal.at.ended-ended-requires c).After-is_ok-accepted t).in_time)
 
 pub remove_first-requires : goal.remove_first-requires
 remove_first-requires c =
@@ -45,7 +45,7 @@ returns c =
       time = c.moved-now.ensures;
       lates = c.newly_late-late.ensures;
       jobs = list_if ok (release_first (drop 1 xs)) s.list _ (handed_shaped s c.requires) c.remove_first.ensures;
-      tallies = tallied_if ok s c.args.at c.newly_late-late.result c.first-first.result c.line_of-line.result c.response_of-response.result c.with_late-reported.result _ c.first-first.ensures c.line_of-line.ensures c.response_of-response.ensures c.with_late-reported.ensures c.with_ended.ensures;
+      tallies = tallied_if ok s c.args.at c.newly_late-late.result c.first-first.result c.line_of-line.result c.ended-ended.result c.with_late-reported.result _ c.first-first.ensures c.line_of-line.ensures c.ended-ended.ensures c.with_late-reported.ensures c.with_ended.ensures;
       runs = c.running.ensures ∙ ap choice_of c.front-lead.ensures ∙ leaves_if ok xs (drop 1 xs) ∙ runs_if (cond ok (release_first (drop 1 xs)) xs) _ c.remove_first.ensures;
       calls = c.settle_call.ensures ∙ ap (λ (l : Option Job). cond ok (settle_of l) NoCall) c.front-lead.ensures ∙ settles_if ok xs (drop 1 xs);
     }))
