@@ -2,9 +2,9 @@
 use Prim.Native.Nat.{ℕ, zero, suc, ◌+◌, ◌-◌, ◌<◌, ◌≤◌}
 use mathlib.Core.Path.{◌≡◌, refl, ap, sym, ◌∙◌}
 use mathlib.Core.Bool.{Bool, true, false, not, ◌||◌, or-false}
-use mathlib.Core.List.{List, [], ◌∷◌, ◌++◌, append-nil}
+use mathlib.Core.List.{List, ◌∷◌, ◌++◌, append-nil}
 use lib.ListN.{length, take, drop, set, replicate, length-take, length-append, length-replicate, drop_of_length-le}
-use lib.Seq.{drop-cons, get_or-take, length-take-le, take-suc-set, take_all, append_snoc}
+use lib.Seq.{drop-cons, length-take-le, take-suc-set, take_all, append_snoc}
 use lib.Dec.{ltb, leb}
 use native.Mathlib.Numerals.{add-one}
 use native.Mathlib.Omega.{arith}
@@ -18,7 +18,11 @@ use Rattle.rules.specs.Statement.{row_1}
 use Rattle.rules.specs.Table.{DeadlineInRange, LimitInRange, size, no_line, limits, verdict, fine, ◌then◌, refuse, ranges_from, breaks, pairs_with, pairs_from, check}
 use Rattle.rules.proofs.Bools.{within_test, by_not}
 use Rattle.rules.proofs.Checked.{check_exact}
-use Rattle.table.specs.Lines.{packed, line_at, lines_in, given, line_refusal}
+use Rattle.table.specs.Lines.{packed, line_at, lines_in, given, line_answer, refused_as}
+use Rattle.table.specs.declared.TableRefusal.{TableRefusal}
+use Rattle.table.specs.declared.TableRefusal.TheVariants.{LineCount, Deadline, Limit, LimitSum, Priority}
+use Rattle.std.specs.List.{sum_by}
+use Rattle.std.proofs.lemmas.List.Recursion.{is_sum_by}
 use Rattle.table.specs.declared.TaskTable.{TaskTable}
 
 -- ---- verdicts one behind the other
@@ -57,36 +61,44 @@ outside lo hi x h = ap not (by_not (within lo hi x) (λ e. h ((within_test lo hi
 inside : (lo hi x : ℕ) → Within lo hi x → not (within lo hi x) ≡ false
 inside lo hi x w = ap not ((within_test lo hi x).1 w)
 
--- a line's number, by its two tests
-abbrev line_by : Bool → Bool → ℕ
-line_by s t = (refuse 2 (TheLine 0) s then refuse 3 (TheLine 0) t then fine).number
+-- a line's answer, by its two tests
+abbrev line_by : ℕ → Bool → Bool → Verdict
+line_by i s t = refuse 2 (TheLine i) s then refuse 3 (TheLine i) t then fine
 
 -- the deadline's test comes first
-pub refusal_2 : (x : Line) → (DeadlineInRange x → ⊥) → line_refusal x ≡ 2
-unfolding line_refusal ◌then◌ refuse
-refusal_2 x h = ap (λ s. line_by s (not (within 1 32 x.limit))) (outside 1 1000000000 x.deadline.0 h)
+pub refusal_2 : (i : ℕ) (x : Line) → (DeadlineInRange x → ⊥) → line_answer i x ≡ verdict 2 (TheLine i)
+unfolding line_answer ◌then◌ refuse
+refusal_2 i x h = ap (λ s. line_by i s (not (within 1 32 x.limit))) (outside 1 1000000000 x.deadline.0 h)
 
 -- then the limit's
-pub refusal_3 : (x : Line) → DeadlineInRange x → (LimitInRange x → ⊥) → line_refusal x ≡ 3
-unfolding line_refusal ◌then◌ refuse
-refusal_3 x d h = λ i. line_by (inside 1 1000000000 x.deadline.0 d i) (outside 1 32 x.limit h i)
+pub refusal_3 : (i : ℕ) (x : Line) → DeadlineInRange x → (LimitInRange x → ⊥) → line_answer i x ≡ verdict 3 (TheLine i)
+unfolding line_answer ◌then◌ refuse
+refusal_3 i x d h = λ w. line_by i (inside 1 1000000000 x.deadline.0 d w) (outside 1 32 x.limit h w)
 
 -- a line that passes both is not refused
-pub refusal_0 : (x : Line) → DeadlineInRange x → LimitInRange x → line_refusal x ≡ 0
-unfolding line_refusal ◌then◌ refuse
-refusal_0 x d l = λ i. line_by (inside 1 1000000000 x.deadline.0 d i) (inside 1 32 x.limit l i)
+pub refusal_0 : (i : ℕ) (x : Line) → DeadlineInRange x → LimitInRange x → line_answer i x ≡ fine
+unfolding line_answer ◌then◌ refuse
+refusal_0 i x d l = λ w. line_by i (inside 1 1000000000 x.deadline.0 d w) (inside 1 32 x.limit l w)
 
--- the two tests of a line are one refusal
-line_told : (s t : Bool) (ls : Named) (w : Verdict) → (refuse 2 ls s then refuse 3 ls t then w) ≡ (verdict (line_by s t) ls then w)
+-- the two tests of a line are one answer
+line_told : (i : ℕ) (s t : Bool) (w : Verdict) → (refuse 2 (TheLine i) s then refuse 3 (TheLine i) t then w) ≡ (line_by i s t then w)
 unfolding ◌then◌ refuse
-line_told true t ls w = refl
-line_told false true ls w = refl
-line_told false false ls w = refl
+line_told i true t w = refl
+line_told i false true w = refl
+line_told i false false w = refl
 
 -- 2 and 3 from a line on
-ranges_line : (i : ℕ) (x : Line) (xs : List Line) → ranges_from i (x ∷ xs) ≡ (verdict (line_refusal x) (TheLine i) then ranges_from (suc i) xs)
-unfolding line_refusal
-ranges_line i x xs = line_told (not (within 1 1000000000 x.deadline.0)) (not (within 1 32 x.limit)) (TheLine i) (ranges_from (suc i) xs)
+ranges_line : (i : ℕ) (x : Line) (xs : List Line) → ranges_from i (x ∷ xs) ≡ (line_answer i x then ranges_from (suc i) xs)
+unfolding line_answer
+ranges_line i x xs = line_told i (not (within 1 1000000000 x.deadline.0)) (not (within 1 32 x.limit)) (ranges_from (suc i) xs)
+
+-- a refusal has a number
+pub refused_number : (r : TableRefusal) → (refused_as r).number ≡ 0 → ⊥
+refused_number LineCount h = omega arith
+refused_number (Deadline i) h = omega arith
+refused_number (Limit i) h = omega arith
+refused_number LimitSum h = omega arith
+refused_number (Priority i j) h = omega arith
 
 -- ---- two lines
 
@@ -105,67 +117,55 @@ clash_none x y h = rw (le-ltb x.deadline.0 y.deadline.0 (omega arith), le-ltb y.
 
 -- ---- the lines of a table
 
-module _ (t : TaskTable) (e : length t.lines ≡ places) (m : t.count ≤ places) where
+module _ (xs : List Line) where
   -- from i on they begin with line i
-  lines_step : (i : ℕ) → i < t.count → drop i (lines_in t) ≡ line_at t.lines i ∷ drop (suc i) (lines_in t)
-  lines_step i h =
-      let k : i < length (lines_in t) = rw (length-take-le t.count t.lines (omega arith)) h in
-      drop-cons (lines_in t) i no_line k ∙ rw (get_or-take t.count t.lines i no_line h)
-
-  -- none is left from the count on
-  lines_end : (i : ℕ) → t.count ≤ i → drop i (lines_in t) ≡ []
-  lines_end i h =
-      let k : length (lines_in t) ≤ i = omega (arith, length-take t.count t.lines) in
-      drop_of_length-le (lines_in t) k
+  lines_step : (i : ℕ) → i < length xs → drop i xs ≡ line_at xs i ∷ drop (suc i) xs
+  lines_step i h = drop-cons xs i no_line h
 
   -- line i is in range: the next line tells
-  pub ranges_turn : (i : ℕ) → i < t.count → line_refusal (line_at t.lines i) ≡ 0 → ranges_from (i + 1) (drop (i + 1) (lines_in t)) ≡ ranges_from i (drop i (lines_in t))
+  pub ranges_turn : (i : ℕ) → i < length xs → fine ≡ line_answer i (line_at xs i) → ranges_from (i + 1) (drop (i + 1) xs) ≡ ranges_from i (drop i xs)
   ranges_turn i h z =
       rw (add-one, lines_step i h)
-      (sym (ranges_line i (line_at t.lines i) (drop (suc i) (lines_in t)) ∙ then_next (verdict (line_refusal (line_at t.lines i)) (TheLine i)) _ z))
+      (sym (ranges_line i (line_at xs i) (drop (suc i) xs) ∙ then_next (line_answer i (line_at xs i)) _ (ap (λ (v : Verdict). v.number) (sym z))))
 
   -- line i is not: it is the answer
-  pub ranges_stop : (i : ℕ) → i < t.count → (line_refusal (line_at t.lines i) ≡ 0 → ⊥) → verdict (line_refusal (line_at t.lines i)) (TheLine i) ≡ ranges_from i (drop i (lines_in t))
-  ranges_stop i h z =
+  pub ranges_stop : (i : ℕ) (r : TableRefusal) → i < length xs → refused_as r ≡ line_answer i (line_at xs i) → refused_as r ≡ ranges_from i (drop i xs)
+  ranges_stop i r h z =
       rw (lines_step i h)
-      (sym (ranges_line i (line_at t.lines i) (drop (suc i) (lines_in t)) ∙ then_stop (verdict (line_refusal (line_at t.lines i)) (TheLine i)) _ z))
+      (sym (ranges_line i (line_at xs i) (drop (suc i) xs) ∙ ap (λ (v : Verdict). v then ranges_from (suc i) (drop (suc i) xs)) (sym z) ∙ then_stop (refused_as r) _ (refused_number r)))
 
   -- all lines are passed
-  pub ranges_end : (i : ℕ) → t.count ≤ i → ranges_from i (drop i (lines_in t)) ≡ fine
-  ranges_end i h = rw (lines_end i h)
-
-  -- line i's limit, and those behind it
-  pub limits_turn : (i : ℕ) → i < t.count → (line_at t.lines i).limit + limits (drop (i + 1) (lines_in t)) ≡ limits (drop i (lines_in t))
-  limits_turn i h = rw (add-one, lines_step i h)
-
-  -- nothing is left to add
-  pub limits_end : (i : ℕ) → t.count ≤ i → limits (drop i (lines_in t)) ≡ 0
-  limits_end i h = rw (lines_end i h)
+  pub ranges_end : (i : ℕ) → length xs ≤ i → ranges_from i (drop i xs) ≡ fine
+  ranges_end i h = rw (drop_of_length-le xs h)
 
   -- line i with those behind it, then the next line
-  pub pairs_enter : (i : ℕ) → i < t.count → (pairs_with i (line_at t.lines i) (i + 1) (drop (i + 1) (lines_in t)) then pairs_from (i + 1) (drop (i + 1) (lines_in t))) ≡ pairs_from i (drop i (lines_in t))
+  pub pairs_enter : (i : ℕ) → i < length xs → (pairs_with i (line_at xs i) (i + 1) (drop (i + 1) xs) then pairs_from (i + 1) (drop (i + 1) xs)) ≡ pairs_from i (drop i xs)
   pairs_enter i h = rw (add-one, lines_step i h)
 
   -- lines i and j do not clash: the next line j tells
-  pub pairs_turn : (i j : ℕ) (x : Line) (w : Verdict) → j < t.count → (breaks x (line_at t.lines j) || breaks (line_at t.lines j) x) ≡ false → (pairs_with i x (j + 1) (drop (j + 1) (lines_in t)) then w) ≡ (pairs_with i x j (drop j (lines_in t)) then w)
+  pub pairs_turn : (i j : ℕ) (x : Line) (w : Verdict) → j < length xs → (breaks x (line_at xs j) || breaks (line_at xs j) x) ≡ false → (pairs_with i x (j + 1) (drop (j + 1) xs) then w) ≡ (pairs_with i x j (drop j xs) then w)
   pairs_turn i j x w h b =
       rw (add-one, lines_step j h)
-      (ap (λ (v : Verdict). v then w) (sym (refuse_next 5 (BothLines i j) _ (pairs_with i x (suc j) (drop (suc j) (lines_in t))) b)))
+      (ap (λ (v : Verdict). v then w) (sym (refuse_next 5 (BothLines i j) _ (pairs_with i x (suc j) (drop (suc j) xs)) b)))
 
   -- they do: they are the answer
-  pub pairs_stop : (i j : ℕ) (x : Line) (w : Verdict) → j < t.count → (breaks x (line_at t.lines j) || breaks (line_at t.lines j) x) ≡ true → verdict 5 (BothLines i j) ≡ (pairs_with i x j (drop j (lines_in t)) then w)
+  pub pairs_stop : (i j : ℕ) (x : Line) (w : Verdict) → j < length xs → (breaks x (line_at xs j) || breaks (line_at xs j) x) ≡ true → verdict 5 (BothLines i j) ≡ (pairs_with i x j (drop j xs) then w)
   pairs_stop i j x w h b =
-      let s = refuse_stop 4 (BothLines i j) (breaks x (line_at t.lines j) || breaks (line_at t.lines j) x) (pairs_with i x (suc j) (drop (suc j) (lines_in t))) b in
+      let s = refuse_stop 4 (BothLines i j) (breaks x (line_at xs j) || breaks (line_at xs j) x) (pairs_with i x (suc j) (drop (suc j) xs)) b in
       rw (lines_step j h, s)
       (sym (then_stop (verdict 5 (BothLines i j)) w (λ z. omega arith)))
 
   -- line i clashes with none: the next line i tells
-  pub pairs_leave : (i j : ℕ) (x : Line) (w : Verdict) → t.count ≤ j → w ≡ (pairs_with i x j (drop j (lines_in t)) then w)
-  pairs_leave i j x w h = rw (lines_end j h) (sym (then_next fine w refl))
+  pub pairs_leave : (i j : ℕ) (x : Line) (w : Verdict) → length xs ≤ j → w ≡ (pairs_with i x j (drop j xs) then w)
+  pairs_leave i j x w h = rw (drop_of_length-le xs h) (sym (then_next fine w refl))
 
   -- all lines are passed
-  pub pairs_end : (i : ℕ) → t.count ≤ i → pairs_from i (drop i (lines_in t)) ≡ fine
-  pairs_end i h = rw (lines_end i h)
+  pub pairs_end : (i : ℕ) → length xs ≤ i → pairs_from i (drop i xs) ≡ fine
+  pairs_end i h = rw (drop_of_length-le xs h)
+
+-- the limits, as std adds them
+pub limits_law : (xs : List Line) → sum_by (λ (x : Line). x.limit) xs ≡ limits xs
+limits_law xs = sym (is_sum_by limits (λ (x : Line). x.limit) refl (λ x l. refl) xs)
 
 -- ---- the check
 

@@ -1,16 +1,19 @@
 // The task table by value: its lines by task number, and the check.
 #![tactic(auto)]
 
-ghost use Rattle.std.specs.Prelude.{◌≡◌, ◌||◌, [], ◌≤◌};
+ghost use Rattle.std.specs.Prelude.{◌≡◌, ◌||◌, [], ◌≤◌, length, sum_by};
 ghost use Rattle.rules.specs.Words.{places};
-ghost use Rattle.rules.specs.Table.{no_line, fine, breaks, check, ranges_from, limits, pairs_from};
-ghost use Rattle.table.specs.Lines.{packed, line_at, given, lines_in, line_refusal};
+ghost use Rattle.rules.specs.Table.{no_line, breaks, check, ranges_from, pairs_from};
+ghost use Rattle.table.specs.Lines.{packed, line_at, given, lines_in, line_answer, refused_as, answered};
 ghost use Rattle.table.specs.Copy.{lines_read_of, begun_of, pushed_of};
 
-use rules::{Line, Named, PLACES, Span, Verdict};
+use rules::{Line, Named, PLACES, Verdict};
 
 // The longest relative deadline.
 const LONGEST: u64 = 1000000000;
+
+// What the limits add up to at most.
+const MOST: usize = 32;
 
 // Up to 32 lines, and how many there are; of more the count alone decides. Places at and past the count are blank in a table that is kept.
 #[repr(C)]
@@ -23,11 +26,7 @@ pub struct TaskTable {
 fn blank() -> Line
     ensures { result ≡ no_line }
 {
-    Line {
-        deadline: Span(0),
-        priority: 0,
-        limit: 0,
-    }
+    Line::default()
 }
 
 // The line at a task's place. Past the last line of a table that is kept, and past the places, it is blank.
@@ -59,70 +58,79 @@ pub fn lines_of(table: TaskTable, one: u8, other: u8) -> LinePair
     }
 }
 
-// What answers where no line breaks a rule.
-fn fine() -> Verdict
-    ensures { result ≡ fine }
-{
-    Verdict {
-        number: 0,
-        lines: Named::NoneNamed,
+// Why a table is refused, with the lines named.
+#[derive(Clone, Copy)]
+pub enum TableRefusal {
+    LineCount,
+    Deadline(u8),
+    Limit(u8),
+    LimitSum,
+    Priority(u8, u8),
+}
+
+// The refusal as the check answers it.
+impl From<TableRefusal> for Verdict {
+    ghost use Rattle.std.specs.Prelude.{◌≡◌};
+    ghost use Rattle.table.specs.Lines.{refused_as};
+
+    ghost from_gives = { λ refusal verdict. verdict ≡ refused_as refusal };
+
+    fn from(refusal: TableRefusal) -> Verdict {
+        match refusal {
+            TableRefusal::LineCount => Verdict {
+                number: 1,
+                lines: Named::NoneNamed,
+            },
+            TableRefusal::Deadline(line) => Verdict {
+                number: 2,
+                lines: Named::TheLine(line),
+            },
+            TableRefusal::Limit(line) => Verdict {
+                number: 3,
+                lines: Named::TheLine(line),
+            },
+            TableRefusal::LimitSum => Verdict {
+                number: 4,
+                lines: Named::NoneNamed,
+            },
+            TableRefusal::Priority(one, other) => Verdict {
+                number: 5,
+                lines: Named::BothLines(one, other),
+            },
+        }
     }
 }
 
-// 2 or 3, if the line is out of range; the deadline before the limit.
-fn line_refusal(line: Line) -> u8
-    ensures { result ≡ line_refusal line }
+// 2 or 3, if line i is out of range; the deadline before the limit.
+fn in_range(i: u8, line: Line) -> Result<(), TableRefusal>
+    ensures { answered result ≡ line_answer i line }
 {
-    if line.deadline.0 < 1 {
-        return 2;
+    if line.deadline.0 < 1 || LONGEST < line.deadline.0 {
+        return Err(TableRefusal::Deadline(i));
     }
-    if LONGEST < line.deadline.0 {
-        return 2;
+    if line.limit < 1 || 32 < line.limit {
+        return Err(TableRefusal::Limit(i));
     }
-    if line.limit < 1 {
-        return 3;
-    }
-    if 32 < line.limit {
-        return 3;
-    }
-    0
+    Ok(())
 }
 
 // 2 and 3, line by line from line 0.
-fn ranges(table: TaskTable) -> Verdict
-    requires { table.count ≤ places }
-    ensures { result ≡ ranges_from 0 (lines_in table) }
+fn ranges(lines: &[Line]) -> Result<(), TableRefusal>
+    requires { length lines.now ≤ places }
+    ensures { answered result ≡ ranges_from 0 lines.now }
 {
-    let n = table.count;
-    let mut i = 0;
-    while i < n {
-        let line = table.lines[i];
-        let number = line_refusal(line);
-        if number != 0 {
-            return Verdict {
-                number,
-                lines: Named::TheLine(i as u8),
-            };
-        }
-        i += 1;
+    for (i, line) in lines.iter().enumerate() {
+        in_range(i as u8, *line)?;
     }
-    fine()
+    Ok(())
 }
 
 // What the limits add up to.
-fn limit_sum(table: TaskTable) -> usize
-    requires { table.count ≤ places }
-    ensures { result ≡ limits (lines_in table) }
+fn limit_sum(lines: &[Line]) -> usize
+    requires { length lines.now ≤ places }
+    ensures { result ≡ sum_by (λ x. x.limit) lines.now }
 {
-    let n = table.count;
-    let mut sum: usize = 0;
-    let mut i = 0;
-    while i < n {
-        let line = table.lines[i];
-        sum += line.limit as usize;
-        i += 1;
-    }
-    sum
+    lines.iter().map(|line| line.limit as usize).sum()
 }
 
 // Whether the shorter relative deadline of two lines lacks the strictly higher priority.
@@ -139,60 +147,50 @@ fn clash(x: Line, y: Line) -> bool
 }
 
 // 5: the first pair that breaks the priority rule, lowest first line, then lowest second.
-fn pairs(table: TaskTable) -> Verdict
-    requires { table.count ≤ places }
-    ensures { result ≡ pairs_from 0 (lines_in table) }
+fn pairs(lines: &[Line]) -> Result<(), TableRefusal>
+    requires { length lines.now ≤ places }
+    ensures { answered result ≡ pairs_from 0 lines.now }
 {
-    let n = table.count;
-    let mut found = fine();
-    let mut i = 0;
-    'lines: while i < n {
-        let x = table.lines[i];
-        let mut j = i + 1;
-        while j < n {
-            let y = table.lines[j];
-            if clash(x, y) {
-                found = Verdict {
-                    number: 5,
-                    lines: Named::BothLines(i as u8, j as u8),
-                };
+    let n = lines.len();
+    let mut found = Ok(());
+    'lines: for i in 0..n {
+        for j in i + 1..n {
+            if clash(lines[i], lines[j]) {
+                found = Err(TableRefusal::Priority(i as u8, j as u8));
                 break 'lines;
             }
-            j += 1;
         }
-        i += 1;
     }
     found
 }
 
-// The check: 1, then 2 and 3 line by line, 4, 5; 0 otherwise.
+// 1, then 2 and 3 line by line, 4, 5.
+fn checked(table: &TaskTable) -> Result<(), TableRefusal>
+    ensures { answered result ≡ check (given table.now) }
+{
+    let n = table.count;
+    if n < 1 || PLACES < n {
+        return Err(TableRefusal::LineCount);
+    }
+    let lines = &table.lines[..n];
+    ranges(lines)?;
+    if MOST < limit_sum(lines) {
+        return Err(TableRefusal::LimitSum);
+    }
+    pairs(lines)
+}
+
+// The check: the number of what refuses the table, and the lines named; 0 where nothing does.
 pub fn check(table: TaskTable) -> Verdict
     ensures { result ≡ check (given table) }
 {
-    let n = table.count;
-    if n < 1 {
-        return Verdict {
-            number: 1,
+    match checked(&table) {
+        Ok(()) => Verdict {
+            number: 0,
             lines: Named::NoneNamed,
-        };
+        },
+        Err(refusal) => refusal.into(),
     }
-    if PLACES < n {
-        return Verdict {
-            number: 1,
-            lines: Named::NoneNamed,
-        };
-    }
-    let ranged = ranges(table);
-    if ranged.number != 0 {
-        return ranged;
-    }
-    if 32 < limit_sum(table) {
-        return Verdict {
-            number: 4,
-            lines: Named::NoneNamed,
-        };
-    }
-    pairs(table)
 }
 
 // The table as it is kept: places at and past the count made blank.
@@ -202,10 +200,8 @@ pub fn kept(table: TaskTable) -> TaskTable
 {
     let mut lines = table.lines;
     let n = table.count;
-    let mut i = n;
-    while i < PLACES {
+    for i in n..PLACES {
         lines[i] = blank();
-        i += 1;
     }
     TaskTable { lines, count: n }
 }
@@ -215,11 +211,7 @@ pub fn empty() -> TaskTable
     ensures { result ≡ packed [] }
 {
     TaskTable {
-        lines: [Line {
-            deadline: Span(0),
-            priority: 0,
-            limit: 0,
-        }; PLACES],
+        lines: [blank(); PLACES],
         count: 0,
     }
 }

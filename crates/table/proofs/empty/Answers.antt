@@ -1,8 +1,14 @@
 -- `table::empty` meets its contract. Assumes nothing.
-use mathlib.Core.Path.{refl}
+use mathlib.Core.Path.{ap}
+use lib.ListN.{replicate}
+use Rattle.rules.specs.declared.Line.{Line}
+use Rattle.table.specs.declared.TaskTable.{TaskTable}
 use Rattle.table.specs.Lines.{packed}
 use Rattle.table.proofs.empty.Goals as goal
 
+abbrev filled : Line → TaskTable
+filled x = record { lines = replicate 32 x; count = 0 }
+
 pub returns : goal.returns
 unfolding packed
-returns c = refl
+returns c = ap filled c.blank.ensures

@@ -8,7 +8,7 @@ use Rattle.rules.specs.Table.{no_line}
 use Rattle.table.proofs.kept.Given as goal
 
 abbrev pub invariant-loop-i : goal.invariant-loop-i
-invariant-loop-i l = (length l.lines ≡ places) × (take l.i l.lines ++ replicate (places - l.i) no_line ≡ take l.initial.i l.initial.lines ++ replicate (places - l.initial.i) no_line)
-
-abbrev pub decreases-loop-i : goal.decreases-loop-i
-decreases-loop-i l = places - l.i
+invariant-loop-i l = record {
+  all : length l.lines ≡ places;
+  blanks : take l.i l.lines ++ replicate (places - l.i) no_line ≡ take l.initial.i l.initial.lines ++ replicate (places - l.initial.i) no_line;
+}
