@@ -162,6 +162,11 @@ pub struct Lines {
 }
 
 impl Lines {
+    // Those that have a place.
+    pub fn as_slice(&self) -> &[Line] {
+        &self.lines[..self.count.min(MOST)]
+    }
+
     // One more line; from 256 lines on nothing changes.
     fn push(&mut self, line: Line) {
         if self.count <= MOST {

@@ -199,7 +199,7 @@ fn write(text: &[u8], room: &mut Room<ROOM>) {
 fn agreeing(tape: &[u8], told: Lines) -> usize {
     let mut at = number::group_count(told.count as u64);
     let mut n = 0;
-    for given in told.lines.iter().take(told.count) {
+    for given in told.as_slice() {
         let Ok(taken) = tape::read_line(tape, at) else {
             return n;
         };
