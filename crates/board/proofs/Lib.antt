@@ -6,7 +6,6 @@ pub mod Data
 pub mod Lines
 pub mod Look1
 pub mod Relay
-pub mod Structs
 pub mod Thin1
 pub mod Thin2
 mod Outcomes

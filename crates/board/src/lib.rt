@@ -10,7 +10,7 @@ ghost use Rattle.scheduler.specs.State.{Handed, why_of};
 ghost use Rattle.board.specs.Lent.{LinesChecked, Left};
 ghost use Rattle.board.specs.Claims.{Claims};
 
-use rules::{Answer, Line, Tick, Why, Written};
+use rules::{Answer, CallRefusal, Line, Reason, TapeRefusal, Tick};
 use scheduler::{Checked, State};
 use tape::LineCopy;
 
@@ -21,11 +21,8 @@ pub fn check(lines: &[Line]) -> Checked
     ensures { LinesChecked lines.now result }
 {
     let mut copy = table::begun(lines.len());
-    let n = table::lines_read(lines.len());
-    let mut i = 0;
-    while i < n {
-        copy = table::pushed(copy, lines[i]);
-        i += 1;
+    for line in &lines[..table::lines_read(lines.len())] {
+        copy = table::pushed(copy, *line);
     }
     scheduler::check(copy)
 }
@@ -75,7 +72,7 @@ pub fn chain(s: &mut State, at: Tick, task: u8) -> Answer
 // ---- the question
 
 // Why a task's first pending job does or does not run. The state is only read.
-pub fn why(s: &State, task: u8) -> Why
+pub fn why(s: &State, task: u8) -> Result<Reason, CallRefusal>
     requires { Handed s.now }
     ensures { result ≡ why_of s.now task }
 {
@@ -89,17 +86,14 @@ fn copy_lines(lines: &[Line]) -> LineCopy
     ensures { result ≡ copied lines.now }
 {
     let mut copy = tape::begun(lines.len());
-    let n = tape::lines_read(lines.len());
-    let mut i = 0;
-    while i < n {
-        copy = tape::pushed(copy, lines[i]);
-        i += 1;
+    for line in &lines[..tape::lines_read(lines.len())] {
+        copy = tape::pushed(copy, *line);
     }
     tape::whole(copy)
 }
 
 // The table of the lent lines, from the buffer's first byte on: the count of its bytes, or the refusal's number.
-pub fn write_table(lines: &[Line], buf: &mut [u8]) -> Written
+pub fn write_table(lines: &[Line], buf: &mut [u8]) -> Result<usize, TapeRefusal>
     ensures { TableWrote (record { lines = lines.now }) buf.old result buf.new }
 {
     let copy = copy_lines(lines);
