@@ -16,9 +16,8 @@ use Rattle.scheduler.specs.declared.Stepped.{Stepped}
 use Rattle.scheduler.specs.State.{kept, state_of, told, step_of}
 use Rattle.scheduler.proofs.Back.{step_is}
 use Rattle.scheduler.proofs.Handed.{handed_by}
-use Rattle.kernel.specs.declared.Found.{Found}
-use Rattle.kernel.specs.declared.Found.TheVariants.{At, Nothing}
-use Rattle.kernel.specs.Dispatch.{dispatch_of}
+use Rattle.std.specs.Prelude.{Some, None}
+use Rattle.kernel.specs.Dispatch.{Found, dispatch_of}
 use Rattle.kernel.specs.Claims.{job_at, placed, choice_at, choice_found, DispatchIsAnswer}
 use Rattle.kernel.proofs.Queue.{dispatch_is_kernel}
 
@@ -29,8 +28,8 @@ shown_at zero (j ∷ l) = refl
 shown_at (suc k) (j ∷ l) = shown_at k l
 
 shown_found : (f : Found) (l : List Job) → choice_found f (map kept l) ≡ shown (placed f l)
-shown_found Nothing l = refl
-shown_found (At k) l = shown_at k l
+shown_found None l = refl
+shown_found (Some k) l = shown_at k l
 
 pub dispatch_is_answer : DispatchIsAnswer
 unfolding state_of told

@@ -13,10 +13,9 @@ use Rattle.rules.specs.declared.Line.{Line}
 use Rattle.rules.specs.declared.Job.{Job as Entry}
 use Rattle.rules.specs.Words.{All}
 use Rattle.rules.proofs.Lists.{all_map, all_append}
-use Rattle.kernel.specs.declared.Found.{Found}
-use Rattle.kernel.specs.declared.Found.TheVariants.{At, Nothing}
+use Rattle.std.specs.Prelude.{Some, None}
 use Rattle.kernel.specs.declared.Best.{Best}
-use Rattle.kernel.specs.Dispatch.{priority_in, takes_over, better_of, best_from, no_best, dispatch_of}
+use Rattle.kernel.specs.Dispatch.{Found, priority_in, takes_over, better_of, best_from, no_best, dispatch_of}
 use Rattle.kernel.specs.Claims.{Highest, Chosen, DispatchIsHighest}
 use Rattle.kernel.proofs.Laws.{better_delayed, better_taken, better_left}
 
@@ -29,19 +28,19 @@ not_both s d r = let z : ◌≡◌ {A = ℕ} 0 1 = cc in omega arith
 module _ (lines : List Line) where
   -- what is found is the best of xs, and t is its priority
   abbrev IsBest : List Entry → Found → ℕ → Type 0
-  IsBest xs Nothing t = Chosen lines xs Nothing × (t ≡ 0)
-  IsBest xs (At k) t = (h : Highest lines xs k) × (priority_in lines h.job ≡ t)
+  IsBest xs None t = Chosen lines xs None × (t ≡ 0)
+  IsBest xs (Some k) t = (h : Highest lines xs k) × (priority_in lines h.job ≡ t)
 
   -- one job more, x
   module _ (xs : List Entry) (x : Entry) where
     -- where it is delayed or lower, the best stays the best
     stays : (f : Found) (t : ℕ) → IsBest xs f t → (x.phase ≡ Released → priority_in lines x < t) → IsBest (xs ++ (x ∷ [])) f t
-    stays Nothing t b low = (all_append (λ (y : Entry). y.phase ≡ Delayed) xs (x ∷ []) b.0 (delayed x.phase refl, tt), b.1)
+    stays None t b low = (all_append (λ (y : Entry). y.phase ≡ Delayed) xs (x ∷ []) b.0 (delayed x.phase refl, tt), b.1)
       where
         delayed : (s : Phase) → x.phase ≡ s → x.phase ≡ Delayed
         delayed Delayed e = e
         delayed Released e = absurd (omega (arith, low e, b.1))
-    stays (At k) t b low =
+    stays (Some k) t b low =
         let h = b.0 in (
           record {
             front = h.front;
@@ -58,8 +57,8 @@ module _ (lines : List Line) where
 
     -- so far no released job is higher than the best
     none_higher : (f : Found) (t : ℕ) → IsBest xs f t → All (λ (y : Entry). y.phase ≡ Released → priority_in lines y ≤ t) xs
-    none_higher Nothing t b = all_map (λ y d r. absurd (not_both y.phase d r)) xs b.0
-    none_higher (At k) t b =
+    none_higher None t b = all_map (λ y d r. absurd (not_both y.phase d r)) xs b.0
+    none_higher (Some k) t b =
         let h = b.0 in
         subst⁻¹ (All (λ (y : Entry). y.phase ≡ Released → priority_in lines y ≤ t)) h.among
         (all_append (λ (y : Entry). y.phase ≡ Released → priority_in lines y ≤ t) h.front (h.job ∷ h.back)
@@ -67,7 +66,7 @@ module _ (lines : List Line) where
         (λ r. omega (arith, b.1), all_map (λ y a r. omega (arith, a r, b.1)) h.back h.behind))
 
     -- where it is released and at least as high, it is the best
-    takes : (f : Found) (t : ℕ) → IsBest xs f t → x.phase ≡ Released → t ≤ priority_in lines x → IsBest (xs ++ (x ∷ [])) (At (length xs)) (priority_in lines x)
+    takes : (f : Found) (t : ℕ) → IsBest xs f t → x.phase ≡ Released → t ≤ priority_in lines x → IsBest (xs ++ (x ∷ [])) (Some (length xs)) (priority_in lines x)
     takes f t b r high = (
       record {
         front = xs;
@@ -100,8 +99,8 @@ module _ (lines : List Line) where
       rw (append_snoc xs y ys, length-append xs (y ∷ [])) at j
 
   chosen : (xs : List Entry) (f : Found) (t : ℕ) → IsBest xs f t → Chosen lines xs f
-  chosen xs Nothing t b = b.0
-  chosen xs (At k) t b = b.0
+  chosen xs None t b = b.0
+  chosen xs (Some k) t b = b.0
 
 pub dispatch_is_highest : DispatchIsHighest
 unfolding dispatch_of

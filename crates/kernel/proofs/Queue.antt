@@ -22,9 +22,8 @@ use Rattle.rules.proofs.Lists.{rest_of, all_append, pairs_over}
 use Rattle.rules.proofs.Listing.{list_holds}
 use Rattle.table.proofs.Packed.{kept_line}
 use Rattle.table.specs.Lines.{packed, line_at}
-use Rattle.kernel.specs.declared.Found.{Found}
-use Rattle.kernel.specs.declared.Found.TheVariants.{At, Nothing}
-use Rattle.kernel.specs.Dispatch.{dispatch_of}
+use Rattle.std.specs.Prelude.{Some, None}
+use Rattle.kernel.specs.Dispatch.{Found, dispatch_of}
 use Rattle.kernel.specs.Claims.{job_at, placed, Chosen, DispatchIsKernel}
 use Rattle.scheduler.specs.State.{kept}
 use Rattle.kernel.proofs.Highest.{dispatch_is_highest}
@@ -146,8 +145,8 @@ module _ (lines : List Line) where
 
   kernel_runs : (l : List Job) (f : Found) → Chosen lines (map kept l) f → Pairs Apart (map kept l)
       → placed f l ≡ running_in (dispatched level (queue_of (map kept l))) l
-  kernel_runs l Nothing c o = ap (λ q. running_in (dispatched level q) l) (sym (queue_none (map kept l) c))
-  kernel_runs l (At k) h o =
+  kernel_runs l None c o = ap (λ q. running_in (dispatched level q) l) (sym (queue_none (map kept l) c))
+  kernel_runs l (Some k) h o =
       let n = h.job.task in
       let runs : dispatched level (queue_of (map kept l)) ≡ some n =
       ap (λ xs. dispatched level (queue_of xs)) h.among

@@ -5,8 +5,7 @@ use Rattle.rules.specs.declared.Job.{Job as Entry}
 use Rattle.rules.specs.declared.Phase.TheVariants.{Delayed, Released}
 use Rattle.rules.specs.declared.Line.{Line}
 use Rattle.rules.specs.declared.Call.{Call}
-use Rattle.rules.specs.declared.Choice.{Choice}
-use Rattle.rules.specs.declared.Choice.TheVariants.{Idle, Runs}
+use Rattle.rules.specs.Answers.{Choice, runs_as}
 use Rattle.rules.specs.Words.{All}
 use Rattle.rules.specs.Table.{Table}
 use Rattle.rules.specs.Jobs.{Job}
@@ -16,9 +15,8 @@ use Rattle.jobs.specs.Listed.{view}
 use Rattle.table.specs.Lines.{packed}
 use Rattle.scheduler.specs.declared.State.{State}
 use Rattle.scheduler.specs.State.{kept, Handed, step_of}
-use Rattle.kernel.specs.declared.Found.{Found}
-use Rattle.kernel.specs.declared.Found.TheVariants.{At, Nothing}
-use Rattle.kernel.specs.Dispatch.{priority_in, dispatch_of}
+use Rattle.std.specs.Prelude.{Some, None}
+use Rattle.kernel.specs.Dispatch.{Found, priority_in, dispatch_of}
 
 -- ---- the rule-book's kernel
 
@@ -29,8 +27,8 @@ job_at (suc k) (j ∷ l) = job_at k l
 
 -- the job at the place that was found
 abbrev pub placed : Found → List Job → Option Job
-placed Nothing l = none
-placed (At k) l = job_at k l
+placed None l = none
+placed (Some k) l = job_at k l
 
 -- on any table and after any calls, the job that `dispatch` finds is the one that the rule-book's kernel runs with its own ready queue
 abbrev pub DispatchIsKernel : Type 0
@@ -43,13 +41,13 @@ DispatchIsKernel =
 
 -- how an answer shows the job at a place, and at the place that was found
 abbrev pub choice_at : ℕ → List Entry → Choice
-choice_at k [] = Idle
-choice_at zero (x ∷ xs) = Runs x.task x.due
+choice_at k [] = None
+choice_at zero (x ∷ xs) = runs_as x.task x.due
 choice_at (suc k) (x ∷ xs) = choice_at k xs
 
 abbrev pub choice_found : Found → List Entry → Choice
-choice_found Nothing xs = Idle
-choice_found (At k) xs = choice_at k xs
+choice_found None xs = None
+choice_found (Some k) xs = choice_at k xs
 
 -- the running job that a call's answer names is the one that `dispatch` finds in the state that the call leaves
 abbrev pub DispatchIsAnswer : Type 0
@@ -73,8 +71,8 @@ pub record Highest (lines : List Line) (xs : List Entry) (k : ℕ) : Type 0 wher
 
 -- that job is found; nothing is found where nothing is released
 abbrev pub Chosen : List Line → List Entry → Found → Type 0
-Chosen lines xs Nothing = All (λ (x : Entry). x.phase ≡ Delayed) xs
-Chosen lines xs (At k) = Highest lines xs k
+Chosen lines xs None = All (λ (x : Entry). x.phase ≡ Delayed) xs
+Chosen lines xs (Some k) = Highest lines xs k
 
 -- of the released jobs the highest priority is found, and within it the one furthest back in the list, on any lines and any list
 abbrev pub DispatchIsHighest : Type 0

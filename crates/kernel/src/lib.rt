@@ -10,17 +10,10 @@ use jobs::JobList;
 use rules::{Job, PLACES, Phase};
 use table::TaskTable;
 
-// A place in the list, or none.
-#[derive(Clone, Copy)]
-pub enum Found {
-    At(usize),
-    Nothing,
-}
-
-// The best job so far: where it stands, and its priority.
+// The best job so far: where it stands, if there is one, and its priority.
 #[derive(Clone, Copy)]
 struct Best {
-    found: Found,
+    found: Option<usize>,
     top: u8,
 }
 
@@ -35,14 +28,13 @@ fn takes_over(priority: u8, top: u8) -> bool
 fn better(table: TaskTable, at: usize, best: Best, job: Job) -> Best
     ensures { result ≡ better_of table.lines at best job }
 {
-    let phase = job.phase;
-    match phase {
+    match job.phase {
         Phase::Delayed => best,
         Phase::Released => {
             let line = table::line_of(table, job.task);
             if takes_over(line.priority, best.top) {
                 Best {
-                    found: Found::At(at),
+                    found: Some(at),
                     top: line.priority,
                 }
             } else {
@@ -53,22 +45,16 @@ fn better(table: TaskTable, at: usize, best: Best, job: Job) -> Best
 }
 
 // The job that the kernel runs, by its place in the list.
-pub fn dispatch(list: JobList, table: TaskTable) -> Found
+pub fn dispatch(list: JobList, table: TaskTable) -> Option<usize>
     ensures { result ≡ dispatch_of table.lines (view list) }
 {
-    let mut n = list.count;
-    if PLACES < n {
-        n = PLACES;
-    }
+    let n = list.count.min(PLACES);
     let mut best = Best {
-        found: Found::Nothing,
+        found: None,
         top: 0,
     };
-    let mut i = 0;
-    while i < n {
-        let job = list.jobs[i];
-        best = better(table, i, best, job);
-        i += 1;
+    for (i, job) in list.jobs[..n].iter().enumerate() {
+        best = better(table, i, best, *job);
     }
     best.found
 }
