@@ -1,10 +1,7 @@
 -- `print_runs::long` meets its contract. Assumes nothing.
-use Rattle.std.proofs.Common.{length, ◌-◌}
+use Rattle.std.proofs.Common.{IfSome}
 use Rattle.scheduler.specs.State.{Handed}
 use Rattle.print_runs.proofs.long.Given as goal
 
-abbrev pub invariant-loop-n : goal.invariant-loop-n
-invariant-loop-n l = Handed l.run.state
-
-abbrev pub decreases-loop-n : goal.decreases-loop-n
-decreases-loop-n l = length l.tape - l.run.at
+abbrev pub invariant-loop : goal.invariant-loop
+invariant-loop l = IfSome l.run (λ r. Handed r.state)

@@ -1,5 +1,0 @@
--- `gauge::gauge_records` meets its contract. Assumes nothing.
-use Rattle.gauge.proofs.gauge_records.Given as goal
-
-abbrev pub decreases-loop-left : goal.decreases-loop-left
-decreases-loop-left l = l.left
