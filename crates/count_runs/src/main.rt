@@ -1,7 +1,7 @@
 // The counts: they stand still at 4294967295, and the greatest response is kept. Nobody makes that many calls, so monitors are set close to it.
 #![tactic(auto)]
 
-use monitor::Monitor;
+use monitor::{Ended, Monitor};
 use print::Page;
 use rules::{Late, PLACES, Tally};
 use std::fmt::Write;
@@ -25,11 +25,15 @@ fn set(late: u32, ended: u32, response: u64) -> Monitor {
 
 // Newly late jobs of one task.
 fn late(monitor: Monitor, jobs: u8, task: u8) -> Monitor {
-    let late = Late {
+    monitor.with_late(Late {
         count: jobs,
         tasks: [task; PLACES],
-    };
-    monitor::with_late(monitor, late)
+    })
+}
+
+// An ended job of a task, with its response.
+fn ended(monitor: Monitor, task: u8, response: u64) -> Monitor {
+    monitor.with_ended(Some(Ended { task, response }))
 }
 
 // What is counted of the first task and the last.
@@ -85,13 +89,13 @@ fn ended_jobs() {
     show::heading(b"ended jobs and the greatest response");
     let m = set(5, 4294967292, 7);
     shown(b"set", m);
-    let m = monitor::with_ended(m, true, 0, 6);
+    let m = ended(m, 0, 6);
     shown(b"one of task 0, response 6", m);
-    let m = monitor::with_ended(m, true, 0, 7);
+    let m = ended(m, 0, 7);
     shown(b"one of task 0, response 7", m);
-    let m = monitor::with_ended(m, true, 0, 8);
+    let m = ended(m, 0, 8);
     shown(b"one of task 0, response 8", m);
-    let m = monitor::with_ended(m, true, 0, 0);
+    let m = ended(m, 0, 0);
     shown(b"one of task 0, response 0", m);
 }
 
@@ -99,11 +103,11 @@ fn greatest_response() {
     show::heading(b"the greatest response has no stop, also where the count stands still");
     let m = set(5, 4294967295, 8);
     shown(b"set", m);
-    let m = monitor::with_ended(m, true, 31, 9);
+    let m = ended(m, 31, 9);
     shown(b"one of task 31, response 9", m);
-    let m = monitor::with_ended(m, true, 31, 4611686018427387903);
+    let m = ended(m, 31, 4611686018427387903);
     shown(b"one of task 31, response 4611686018427387903", m);
-    let m = monitor::with_ended(m, true, 31, 9);
+    let m = ended(m, 31, 9);
     shown(b"one of task 31, response 9", m);
 }
 
