@@ -272,8 +272,10 @@ impl<const N: usize> Room<N> {
     }
 
     // Bytes one behind the other.
+    #[tactic(auto, using(crate::proofs::Rooms::one_more))]
     pub fn extend(&mut self, bytes: &[u8])
-        ensures { self.old.len ≤ self.new.len }
+        ensures bytes { take self.new.len self.new.bytes ≡ take N (take self.old.len self.old.bytes ++ bytes.now) }
+        ensures len { self.new.len ≡ min (self.old.len + length bytes.now) N }
     {
         for b in bytes {
             self.push(*b);
@@ -307,6 +309,8 @@ impl<const N: usize> Room<N> {
 }
 
 impl<const N: usize> fmt::Write for Room<N> {
+    ghost write_str_gives = { λ before text after. take after.len after.bytes ≡ take N (take before.len before.bytes ++ text) };
+
     fn write_str(&mut self, s: &str) -> fmt::Result {
         self.extend(s.as_bytes());
         Ok(())
