@@ -5,9 +5,8 @@ use mathlib.Core.List.{List}
 use lib.ListN.{length, take, replicate}
 use native.Mathlib.Omega.{arith}
 use Rattle.rules.specs.declared.Line.{Line}
-use Rattle.rules.specs.declared.Written.{Written}
-use Rattle.rules.specs.Table.{Table, no_line}
-use Rattle.rules.specs.Tape.{bad_table, table_bytes, TableWrote}
+use Rattle.rules.specs.Table.{Table}
+use Rattle.rules.specs.Tape.{Written, bad_table, table_bytes, TableWrote}
 use Rattle.tape.specs.Tables.{given_lines}
 use Rattle.tape.proofs.Copying.{lines_refused, refused_alike}
 use Rattle.tape.proofs.Sizes.{given_is, given_many}
@@ -18,15 +17,15 @@ part_wrote : (lines : List Line) (count : ℕ) (old : List ℕ) (r : Written) (n
 part_wrote lines count old r new held few = subst (λ (T : Table). TableWrote T old r new) (sym (given_is lines count held few))
 
 -- more are refused as any 256 are
-more_wrote : (lines : List Line) (count : ℕ) (old : List ℕ) (r : Written) (new : List ℕ) → length lines ≡ 255 → 255 < count → TableWrote (record { lines = replicate 256 no_line }) old r new → TableWrote (given_lines lines count) old r new
-more_wrote lines count old r new held many =
-    refused_alike (bad_table (record { lines = replicate 256 no_line })) (bad_table (given_lines lines count)) (table_bytes (record { lines = replicate 256 no_line })) (table_bytes (given_lines lines count)) old r new
-    (lines_refused (replicate 256 no_line) (omega arith)) (given_many lines count held many)
+more_wrote : (x : Line) (lines : List Line) (count : ℕ) (old : List ℕ) (r : Written) (new : List ℕ) → length lines ≡ 255 → 255 < count → TableWrote (record { lines = replicate 256 x }) old r new → TableWrote (given_lines lines count) old r new
+more_wrote x lines count old r new held many =
+    refused_alike (bad_table (record { lines = replicate 256 x })) (bad_table (given_lines lines count)) (table_bytes (record { lines = replicate 256 x })) (table_bytes (given_lines lines count)) old r new
+    (lines_refused (replicate 256 x) (omega arith)) (given_many lines count held many)
 
 pub returns-then-count-le-MOST_LINES : goal.returns-then-count-le-MOST_LINES
 returns-then-count-le-MOST_LINES c =
-    part_wrote c.args.lines c.args.count _ _ _ (omega (arith, c.well_formed)) c.if-count-le-MOST_LINES.true c.write_part.ensures
+    part_wrote c.args.lines c.args.count _ _ _ (omega (arith, c.well_formed)) c.if-count-le-MOST_LINES.true c.write_table.ensures
 
 pub returns : goal.returns
 returns c =
-    more_wrote c.args.lines c.args.count _ _ _ (omega (arith, c.well_formed)) (omega arith) c.write_more.ensures
+    more_wrote c.default.result c.args.lines c.args.count _ _ _ (omega (arith, c.well_formed)) (omega arith) c.write_table-2.ensures
