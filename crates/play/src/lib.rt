@@ -7,7 +7,7 @@ ghost use Rattle.play.specs.Run.{Kept};
 use jobs::JobList;
 use monitor::Monitor;
 use print::Page;
-use rules::{Answer, Job, Phase, Running, Tick, Verdict};
+use rules::{Job, Phase, Running, Tick, Verdict};
 use scheduler::State;
 use table::TaskTable;
 
@@ -79,12 +79,6 @@ fn page_of(text: &[u8]) -> Page {
     page
 }
 
-fn told(text: &[u8], bare: bool, at: Tick, answer: Answer) {
-    let mut page = if bare { Page::new() } else { page_of(text) };
-    page.answer(at, answer);
-    show::send(&mut page);
-}
-
 // 'why 2': why the task's first pending job does or does not run.
 fn waits(run: Run, text: &[u8])
     requires { Handed run.state }
@@ -102,7 +96,9 @@ fn called(run: Run, text: &[u8]) -> Run
 {
     let call = script::call_of(text);
     let stepped = lent::call(run.state, call);
-    told(text, run.bare, records::tick_of(call), stepped.answer);
+    let mut page = if run.bare { Page::new() } else { page_of(text) };
+    page.answer(records::tick_of(call), stepped.answer);
+    show::send(&mut page);
     Run {
         state: stepped.state,
         bare: run.bare,
@@ -172,7 +168,6 @@ fn begun(text: &[u8], bare: bool) -> Option<Run>
 // What a line asks for.
 #[derive(Clone, Copy)]
 enum Asked {
-    Nothing,
     Begin { bare: bool },
     Check,
     State,
@@ -183,12 +178,9 @@ enum Asked {
 }
 
 // A line that begins with a small letter asks for something. 'printed' and 'state' are told by their first letter, the other words by their third.
-fn asked_by(text: &[u8]) -> Asked {
-    let first = script::byte_at(text, 0);
-    if first < b'a' {
-        return Asked::Nothing;
-    }
-    match (first, script::byte_at(text, 2)) {
+fn asked_by(text: &[u8]) -> Option<Asked> {
+    let asked = match (script::byte_at(text, 0), script::byte_at(text, 2)) {
+        (first, _) if first < b'a' => return None,
         (b'p', _) => Asked::Begin { bare: true },
         (_, b'n') => Asked::Begin { bare: false },
         (b's', _) => Asked::State,
@@ -197,16 +189,17 @@ fn asked_by(text: &[u8]) -> Asked {
         (_, b'u') => Asked::Counts,
         (_, b'y') => Asked::Why,
         _ => Asked::Call,
-    }
+    };
+    Some(asked)
 }
 
 // A line on a state: a call changes it, any other line shows it.
-fn step(run: Run, line: Asked, text: &[u8]) -> Run
+fn step(run: Run, asked: Asked, text: &[u8]) -> Run
     requires { Handed run.state }
     ensures { Handed result.state }
 {
     let state = run.state;
-    match line {
+    match asked {
         Asked::List => listed(state.list, state.last, picked(state.list, state.table)),
         Asked::Counts => counts(state.monitor, state.table.count),
         Asked::Why => waits(run, text),
@@ -216,12 +209,12 @@ fn step(run: Run, line: Asked, text: &[u8]) -> Run
 }
 
 // A line on the state, if there is one.
-fn stepped(run: Option<Run>, line: Asked, text: &[u8]) -> Option<Run>
+fn stepped(run: Option<Run>, asked: Asked, text: &[u8]) -> Option<Run>
     requires { Kept run }
     ensures { Kept result }
 {
     match run {
-        Some(run) => Some(step(run, line, text)),
+        Some(run) => Some(step(run, asked, text)),
         None => {
             no_table(text);
             None
@@ -234,22 +227,17 @@ fn line_of(run: Option<Run>, text: &[u8]) -> Option<Run>
     requires { Kept run }
     ensures { Kept result }
 {
-    match asked_by(text) {
-        Asked::Nothing => {
-            show::say(text);
-            run
-        }
-        Asked::Begin { bare } => begun(text, bare),
-        Asked::Check => {
-            checked(text);
-            run
-        }
-        Asked::State => {
-            left(text);
-            run
-        }
-        line => stepped(run, line, text),
+    let Some(asked) = asked_by(text) else {
+        show::say(text);
+        return run;
+    };
+    match asked {
+        Asked::Begin { bare } => return begun(text, bare),
+        Asked::Check => checked(text),
+        Asked::State => left(text),
+        _ => return stepped(run, asked, text),
     }
+    run
 }
 
 // The lines of a text.

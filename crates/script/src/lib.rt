@@ -213,6 +213,7 @@ pub fn lines_of(text: &[u8]) -> Lines {
         lines: [Line::default(); MOST],
         count: 0,
     };
+    // by what is left, not by parts: an entry may go on behind its comma
     let mut rest = text;
     while !rest.is_empty() {
         told.entry(rest);
