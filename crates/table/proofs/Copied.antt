@@ -11,9 +11,9 @@ use lib.Seq.{set-append_seam, append_snoc, take-length}
 use Rattle.rules.specs.declared.Line.{Line}
 use Rattle.rules.specs.Words.{places}
 use Rattle.rules.specs.Table.{no_line}
-use Rattle.table.specs.declared.TaskTable.{TaskTable}
-use Rattle.table.specs.Lines.{packed, lines_in}
-use Rattle.table.specs.Copy.{Copy, lines_read, begun, pushed, copy, as_table, lines_read_of, begun_of, pushed_of}
+use Rattle.table.specs.declared.LineList.{LineList}
+use Rattle.table.specs.Lines.{TaskTable, packed, lines_in}
+use Rattle.table.specs.Copy.{Copy, lines_read, begun, pushed, copy, as_list, pushed_of}
 use Rattle.table.proofs.Packed.{kept_lines, count_packed, packed_length}
 
 -- ---- how many are read
@@ -85,39 +85,39 @@ module _ (p : ℕ) where
       let z : length xs - 0 ≡ length xs = omega arith in
       rw (reads_none p (length xs) h, z)
 
--- ---- as a struct
+-- ---- as a list
 
--- a copy that is kept in a struct is the copy, kept in a struct
-pub copied_in : {C : Type 0} (keeps : Copy → C) (push : C → Line → C) (p : ℕ) → ((c : Copy) (x : Line) → push (keeps c) x ≡ keeps (pushed p c x)) → (xs : List Line) (c : Copy) → foldl push (keeps c) xs ≡ keeps (foldl (pushed p) c xs)
-copied_in keeps push p same [] c = refl
-copied_in keeps push p same (x ∷ xs) c = ap (λ k. foldl push k xs) (same c x) ∙ copied_in keeps push p same xs (pushed p c x)
+-- a copy that is kept in a list is the copy, kept in a list
+module _ (p : ℕ) where
+  copied_from : (xs : List Line) (c : Copy) → foldl (pushed_of p) (as_list p c) xs ≡ as_list p (foldl (pushed p) c xs)
+  copied_from [] c = refl
+  copied_from (x ∷ xs) c = copied_from xs (pushed p c x)
 
-pub copied_table : (xs : List Line) → foldl pushed_of (begun_of (length xs)) (take (lines_read_of (length xs)) xs) ≡ as_table (copy places xs)
-unfolding lines_read_of begun_of pushed_of
-copied_table xs = copied_in as_table pushed_of places (λ c x. refl) (take (lines_read places (length xs)) xs) (begun places (length xs))
+  pub copied_list : (xs : List Line) → foldl (pushed_of p) (as_list p (begun p (length xs))) (take (lines_read p (length xs)) xs) ≡ as_list p (copy p xs)
+  copied_list xs = copied_from (take (lines_read p (length xs)) xs) (begun p (length xs))
 
 -- up to 32 lines are laid out as a table is kept; of more there is the count
-table_few : (xs : List Line) → length xs ≤ places → as_table (copy places xs) ≡ packed xs
+table_few : (xs : List Line) → length xs ≤ places → as_list places (copy places xs) ≡ packed xs
 unfolding packed
-table_few xs h = ap as_table (copy_few places xs h)
+table_few xs h = ap (as_list places) (copy_few places xs h)
 
-table_many : (xs : List Line) → places < length xs → as_table (copy places xs) ≡ record { lines = replicate places no_line; count = length xs }
-table_many xs h = ap as_table (copy_many places xs h)
+table_many : (xs : List Line) → places < length xs → as_list places (copy places xs) ≡ record { lines = replicate places no_line; count = length xs }
+table_many xs h = ap (as_list places) (copy_many places xs h)
 
 module _ (xs : List Line) where
-  pub copied_count : (as_table (copy places xs)).count ≡ length xs
+  pub copied_count : (as_list places (copy places xs)).count ≡ length xs
   copied_count = go (dec_le (length xs) places)
     where
-      go : Dec (length xs ≤ places) → (as_table (copy places xs)).count ≡ length xs
+      go : Dec (length xs ≤ places) → (as_list places (copy places xs)).count ≡ length xs
       go (yes h) = ap (λ (t : TaskTable). t.count) (table_few xs h) ∙ count_packed xs
       go (no h) = ap (λ (t : TaskTable). t.count) (table_many xs (omega arith))
 
-  pub copied_places : length (as_table (copy places xs)).lines ≡ places
+  pub copied_places : length (as_list places (copy places xs)).lines ≡ places
   copied_places = go (dec_le (length xs) places)
     where
-      go : Dec (length xs ≤ places) → length (as_table (copy places xs)).lines ≡ places
+      go : Dec (length xs ≤ places) → length (as_list places (copy places xs)).lines ≡ places
       go (yes h) = ap (λ (t : TaskTable). length t.lines) (table_few xs h) ∙ packed_length xs h
       go (no h) = ap (λ (t : TaskTable). length t.lines) (table_many xs (omega arith))
 
-  pub copied_lines : length xs ≤ places → lines_in (as_table (copy places xs)) ≡ xs
+  pub copied_lines : length xs ≤ places → lines_in (as_list places (copy places xs)) ≡ xs
   copied_lines h = ap lines_in (table_few xs h) ∙ kept_lines xs

@@ -18,12 +18,11 @@ use Rattle.rules.specs.Statement.{row_1}
 use Rattle.rules.specs.Table.{DeadlineInRange, LimitInRange, size, no_line, limits, verdict, fine, ◌then◌, refuse, ranges_from, breaks, pairs_with, pairs_from, check}
 use Rattle.rules.proofs.Bools.{within_test, by_not}
 use Rattle.rules.proofs.Checked.{check_exact}
-use Rattle.table.specs.Lines.{packed, line_at, lines_in, given, line_answer, refused_as}
+use Rattle.table.specs.Lines.{TaskTable, packed, line_at, lines_in, given, line_answer, refused_as}
 use Rattle.table.specs.declared.TableRefusal.{TableRefusal}
 use Rattle.table.specs.declared.TableRefusal.TheVariants.{LineCount, Deadline, Limit, LimitSum, Priority}
 use Rattle.std.specs.List.{sum_by}
 use Rattle.std.proofs.lemmas.List.Recursion.{is_sum_by}
-use Rattle.table.specs.declared.TaskTable.{TaskTable}
 
 -- ---- verdicts one behind the other
 

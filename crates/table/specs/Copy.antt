@@ -2,9 +2,8 @@
 use Rattle.std.specs.Prelude.{ℕ, ◌+◌, ◌-◌, cond, leb, ltb, length, take, replicate, set}
 use mathlib.Core.List.{List, foldl}
 use Rattle.rules.specs.declared.Line.{Line}
-use Rattle.rules.specs.Words.{places}
 use Rattle.rules.specs.Table.{no_line}
-use Rattle.table.specs.declared.TaskTable.{TaskTable}
+use Rattle.table.specs.declared.LineList.{LineList}
 
 -- ---- with p places
 
@@ -29,17 +28,11 @@ pushed p c x = cond (ltb c.count p) (record { lines = set c.lines c.count x; cou
 abbrev pub copy : ℕ → List Line → Copy
 copy p xs = foldl (pushed p) (begun p (length xs)) (take (lines_read p (length xs)) xs)
 
--- ---- with the 32 places of a table
+-- ---- as a list of p places
 
--- a copy as a table, and what `lines_read`, `begun` and `pushed` give there
-abbrev pub as_table : Copy → TaskTable
-as_table c = record { lines = c.lines; count = c.count }
+-- a copy as a list, and what `pushed` gives there
+abbrev pub as_list : (p : ℕ) → Copy → LineList p
+as_list p c = record { lines = c.lines; count = c.count }
 
-unfoldable pub lines_read_of : ℕ → ℕ
-lines_read_of n = lines_read places n
-
-unfoldable pub begun_of : ℕ → TaskTable
-begun_of n = as_table (begun places n)
-
-unfoldable pub pushed_of : TaskTable → Line → TaskTable
-pushed_of t x = as_table (pushed places (record { lines = t.lines; count = t.count }) x)
+abbrev pub pushed_of : (p : ℕ) → LineList p → Line → LineList p
+pushed_of p t x = as_list p (pushed p (record { lines = t.lines; count = t.count }) x)

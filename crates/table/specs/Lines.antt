@@ -5,9 +5,13 @@ use Rattle.rules.specs.Words.{places}
 use Rattle.rules.specs.Table.{Table, no_line, verdict, fine, ranges_from}
 use Rattle.rules.specs.declared.Named.TheVariants.{NoneNamed, TheLine, BothLines}
 use Rattle.rules.specs.declared.Verdict.{Verdict}
-use Rattle.table.specs.declared.TaskTable.{TaskTable}
+use Rattle.table.specs.declared.LineList.{LineList}
 use Rattle.table.specs.declared.TableRefusal.{TableRefusal}
 use Rattle.table.specs.declared.TableRefusal.TheVariants.{LineCount, Deadline, Limit, LimitSum, Priority}
+
+-- the lines of the tasks, in 32 places
+abbrev pub TaskTable : Type 0
+TaskTable = LineList places
 
 -- these lines, and blank ones behind them
 unfoldable pub packed : List Line → TaskTable

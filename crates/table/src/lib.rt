@@ -5,7 +5,7 @@ ghost use Rattle.std.specs.Prelude.{◌≡◌, ◌||◌, [], ◌≤◌, length, 
 ghost use Rattle.rules.specs.Words.{places};
 ghost use Rattle.rules.specs.Table.{no_line, breaks, check, ranges_from, pairs_from};
 ghost use Rattle.table.specs.Lines.{packed, line_at, given, lines_in, line_answer, refused_as, answered};
-ghost use Rattle.table.specs.Copy.{lines_read_of, begun_of, pushed_of};
+ghost use Rattle.table.specs.Copy.{lines_read, begun, copy, as_list, pushed_of};
 
 use rules::{Line, Named, PLACES, Verdict};
 
@@ -15,13 +15,16 @@ const LONGEST: u64 = 1000000000;
 // What the limits add up to at most.
 const MOST: usize = 32;
 
-// Up to 32 lines, and how many there are; of more the count alone decides. Places at and past the count are blank in a table that is kept.
+// Up to N lines, and how many there are; of more the count alone decides.
 #[repr(C)]
 #[derive(Clone, Copy)]
-pub struct TaskTable {
-    pub lines: [Line; PLACES],
+pub struct LineList<const N: usize> {
+    pub lines: [Line; N],
     pub count: usize,
 }
+
+// The lines of the tasks. Places at and past the count are blank in a table that is kept.
+pub type TaskTable = LineList<PLACES>;
 
 fn blank() -> Line
     ensures { result ≡ no_line }
@@ -218,37 +221,48 @@ pub fn empty() -> TaskTable
 
 // ---- a copy of lent lines, one after the other
 
-// How many of so many lines are copied: of more than 32 none, since their count alone refuses them.
-pub fn lines_read(given: usize) -> usize
-    ensures { result ≡ lines_read_of given }
-{
-    if given <= PLACES { given } else { 0 }
-}
-
-// The copy before its first line: of more than 32 it holds their count.
-pub fn begun(given: usize) -> TaskTable
-    ensures { result ≡ begun_of given }
-{
-    let none = empty();
-    let lines = none.lines;
-    TaskTable {
-        lines,
-        count: given - lines_read(given),
+impl<const N: usize> LineList<N> {
+    // How many of so many lines are copied: of more than N none, since their count alone refuses them.
+    fn lines_read(given: usize) -> usize
+        ensures { result ≡ lines_read N given }
+    {
+        if given <= N { given } else { 0 }
     }
-}
 
-// One line more. A full table stays as it is.
-pub fn pushed(table: TaskTable, line: Line) -> TaskTable
-    ensures { result ≡ pushed_of table line }
-{
-    let n = table.count;
-    if n < PLACES {
-        let mut lines = table.lines;
-        lines[n] = line;
-        return TaskTable {
-            lines,
-            count: n + 1,
-        };
+    // The copy before its first line: of more than N it holds their count.
+    fn begun(given: usize) -> LineList<N>
+        ensures { result ≡ as_list N (begun N given) }
+    {
+        LineList {
+            lines: [blank(); N],
+            count: given - Self::lines_read(given),
+        }
     }
-    table
+
+    // One line more. A full list stays as it is.
+    fn pushed(self, line: Line) -> LineList<N>
+        ensures { result ≡ pushed_of N self.entry line }
+    {
+        let n = self.count;
+        if n < N {
+            let mut lines = self.lines;
+            lines[n] = line;
+            return LineList {
+                lines,
+                count: n + 1,
+            };
+        }
+        self
+    }
+
+    // The copy of these lines.
+    pub fn copied(lines: &[Line]) -> LineList<N>
+        ensures { result ≡ as_list N (copy N lines.now) }
+    {
+        let mut copy = Self::begun(lines.len());
+        for line in &lines[..Self::lines_read(lines.len())] {
+            copy = copy.pushed(*line);
+        }
+        copy
+    }
 }

@@ -2,8 +2,7 @@
 use mathlib.Core.Path.{ap}
 use lib.ListN.{replicate}
 use Rattle.rules.specs.declared.Line.{Line}
-use Rattle.table.specs.declared.TaskTable.{TaskTable}
-use Rattle.table.specs.Lines.{packed}
+use Rattle.table.specs.Lines.{TaskTable, packed}
 use Rattle.table.proofs.empty.Goals as goal
 
 abbrev filled : Line → TaskTable
