@@ -5,13 +5,13 @@
 ghost use Rattle.std.specs.Prelude.{◌≡◌};
 ghost use Rattle.rules.specs.declared.Call.TheVariants.{Wait, Activate, Terminate, Chain};
 ghost use Rattle.rules.specs.Tape.{TableWrote};
-ghost use Rattle.tape.specs.Tables.{copied};
 ghost use Rattle.scheduler.specs.State.{Handed, why_of};
 ghost use Rattle.board.specs.Lent.{LinesChecked, Left};
 ghost use Rattle.board.specs.Claims.{Claims};
 
 use rules::{Answer, CallRefusal, Line, Reason, TapeRefusal, Tick};
 use scheduler::{Checked, State};
+use table::TaskTable;
 use tape::LineCopy;
 
 // ---- the check
@@ -20,11 +20,7 @@ use tape::LineCopy;
 pub fn check(lines: &[Line]) -> Checked
     ensures { LinesChecked lines.now result }
 {
-    let mut copy = table::begun(lines.len());
-    for line in &lines[..table::lines_read(lines.len())] {
-        copy = table::pushed(copy, *line);
-    }
-    scheduler::check(copy)
+    scheduler::check(TaskTable::copied(lines))
 }
 
 // ---- the calls
@@ -81,23 +77,11 @@ pub fn why(s: &State, task: u8) -> Result<Reason, CallRefusal>
 
 // ---- the table on tape
 
-// The lent lines, one after the other. Of more than 255 lines none is read.
-fn copy_lines(lines: &[Line]) -> LineCopy
-    ensures { result ≡ copied lines.now }
-{
-    let mut copy = tape::begun(lines.len());
-    for line in &lines[..tape::lines_read(lines.len())] {
-        copy = tape::pushed(copy, *line);
-    }
-    tape::whole(copy)
-}
-
-// The table of the lent lines, from the buffer's first byte on: the count of its bytes, or the refusal's number.
+// The table of the lent lines, from the buffer's first byte on: the count of its bytes, or the refusal's number. Of more than 255 lines none is read.
 pub fn write_table(lines: &[Line], buf: &mut [u8]) -> Result<usize, TapeRefusal>
     ensures { TableWrote (record { lines = lines.now }) buf.old result buf.new }
 {
-    let copy = copy_lines(lines);
-    tape::write_copy(copy, buf)
+    tape::write_copy(LineCopy::copied(lines), buf)
 }
 
 // ---- what is claimed

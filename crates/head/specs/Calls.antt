@@ -2,7 +2,7 @@
 use Rattle.std.specs.Prelude.{ℕ, ◌≡◌, List}
 use Rattle.rules.specs.declared.Call.{Call}
 use Rattle.rules.specs.declared.Line.{Line}
-use Rattle.table.specs.declared.TaskTable.{TaskTable}
+use Rattle.table.specs.Lines.{TaskTable}
 use Rattle.scheduler.specs.declared.Checked.{Checked}
 use Rattle.scheduler.specs.declared.Stepped.{Stepped}
 use Rattle.scheduler.specs.State.{checked_for, checked_of, step_of, why_of}

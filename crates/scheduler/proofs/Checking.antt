@@ -10,7 +10,7 @@ use Rattle.rules.specs.Table.{Table, check}
 use Rattle.rules.specs.Run.{fresh_head}
 use Rattle.rules.proofs.Checked.{keeps_found, found_keeps}
 use Rattle.rules.proofs.Reached.{reached_fresh}
-use Rattle.table.specs.declared.TaskTable.{TaskTable}
+use Rattle.table.specs.Lines.{TaskTable}
 use Rattle.table.specs.Lines.{packed, lines_in, given}
 use Rattle.table.proofs.Laws.{given_size, given_few}
 use Rattle.scheduler.specs.declared.State.{State}

@@ -22,7 +22,7 @@ use Rattle.rules.proofs.Outcome.{only}
 use Rattle.rules.proofs.Checked.{keeps_found, found_keeps, check_exact}
 use Rattle.rules.proofs.Demand3.{Both, fresh_both, next_both, results_alike, same_choice}
 use Rattle.rules.proofs.Reached.{head_board, reached_fresh, reached_next}
-use Rattle.table.specs.declared.TaskTable.{TaskTable}
+use Rattle.table.specs.Lines.{TaskTable}
 use Rattle.jobs.specs.Listed.{pack}
 use Rattle.table.specs.Lines.{packed, lines_in, given}
 use Rattle.table.proofs.Packed.{kept_lines, count_packed, packed_length}

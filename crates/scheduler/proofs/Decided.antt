@@ -19,7 +19,7 @@ use Rattle.rules.specs.Words.{only}
 use Rattle.rules.specs.Late.{is_past}
 use Rattle.rules.specs.Counts.{ended_more, on_task, with_late}
 use Rattle.ticks.specs.Ticks.{response_by}
-use Rattle.table.specs.declared.TaskTable.{TaskTable}
+use Rattle.table.specs.Lines.{TaskTable}
 use Rattle.table.specs.Lines.{line_at}
 use Rattle.jobs.specs.declared.JobList.{JobList}
 use Rattle.jobs.specs.Listed.{view, pack, Shaped, insert_due, first_in, release_first, lead_of, lead_with, is_newly_late, late_in, newly_late_in}

@@ -11,7 +11,7 @@ use Rattle.rules.specs.Layer.{fresh}
 use Rattle.rules.specs.Plain.{Plain, start, plain_result, plain_choice, plain_next}
 use Rattle.rules.specs.Run.{run, answers, Head, fresh_head, head_run, Reached}
 use Rattle.rules.specs.Why.{why}
-use Rattle.table.specs.declared.TaskTable.{TaskTable}
+use Rattle.table.specs.Lines.{TaskTable}
 use Rattle.table.specs.Lines.{packed, lines_in}
 use Rattle.scheduler.specs.declared.State.{State}
 use Rattle.scheduler.specs.State.{state_of, table_of, head_of, Handed, checked_for, checked_of, step_of, CheckGives, CallGives, why_of}

@@ -13,7 +13,7 @@ use Rattle.rules.specs.Layer.{Board, answer}
 use Rattle.rules.specs.Run.{Head, fresh_head, head_next, Reached}
 use Rattle.rules.specs.Statement.{released_of}
 use Rattle.rules.specs.Why.{why}
-use Rattle.table.specs.declared.TaskTable.{TaskTable}
+use Rattle.table.specs.Lines.{TaskTable}
 use Rattle.table.specs.Lines.{packed, lines_in, given}
 use Rattle.jobs.specs.Listed.{view, pack}
 use Rattle.monitor.specs.Tallies.{counts}

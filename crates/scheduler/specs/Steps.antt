@@ -18,7 +18,7 @@ use Rattle.rules.specs.Words.{◌if◌else◌}
 use Rattle.rules.specs.Calls.{bad_tick}
 use Rattle.rules.specs.Counts.{no_tallies, ended_more, on_task, with_late}
 use Rattle.ticks.specs.Ticks.{sum, is_beyond, response_by}
-use Rattle.table.specs.declared.TaskTable.{TaskTable}
+use Rattle.table.specs.Lines.{TaskTable}
 use Rattle.table.specs.Lines.{line_at}
 use Rattle.jobs.specs.declared.JobList.{JobList}
 use Rattle.jobs.specs.Listed.{view, pack, is_earlier, is_first_in, insert_due, first_in, release_first, lead_of, pending_of, late_in}

@@ -22,7 +22,7 @@ use Rattle.rules.specs.Print.{ended, header_text, records_text, unopened, longes
 use Rattle.rules.specs.Print
 use Rattle.rules.proofs.Checked.{keeps_found, found_keeps}
 use Rattle.rules.proofs.Reached.{reached_fresh}
-use Rattle.table.specs.declared.TaskTable.{TaskTable}
+use Rattle.table.specs.Lines.{TaskTable}
 use Rattle.table.specs.Lines.{packed, given}
 use Rattle.tape.specs.declared.TableRead.{TableRead}
 use Rattle.tape.specs.Tables.{first_lines, table_in}

@@ -1,8 +1,7 @@
 -- `board::write_table` meets its contract. Assumes nothing.
 use mathlib.Core.Path.{subst}
 use Rattle.rules.specs.Tape.{TableWrote}
-use Rattle.tape.specs.declared.LineCopy.{LineCopy}
-use Rattle.tape.specs.Tables.{given_lines}
+use Rattle.tape.specs.Tables.{LineCopy, given_lines}
 use Rattle.tape.proofs.Copying.{copy_wrote}
 use Rattle.board.proofs.write_table.Goals as goal
 
@@ -11,4 +10,4 @@ returns c =
     let old = c.args.buf.now in
     let r = c.write_copy.result in
     let new = c.write_copy.new.buf in
-    copy_wrote c.args.lines.now old r new (subst (λ (t : LineCopy). TableWrote (given_lines t.lines t.count) old r new) c.copy_lines-copy.ensures c.write_copy.ensures)
+    copy_wrote c.args.lines.now old r new (subst (λ (t : LineCopy). TableWrote (given_lines t.lines t.count) old r new) c.copied.ensures c.write_copy.ensures)
