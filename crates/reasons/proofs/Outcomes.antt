@@ -1,5 +1,7 @@
--- One outcome: any two that satisfy what the source of a public function ensures are equal, its lent buffer included. A field for each. Assumes nothing.
-use Rattle.rules.proofs.Outcome.{OneStatedWith, only}
+-- One outcome: any two that satisfy what the source of a public function ensures are equal, its lent page included. A field for each. Assumes nothing.
+use mathlib.Core.Path.{refl}
+use Rattle.rules.proofs.Outcome.{OneStatedWith}
+use Rattle.print.proofs.Texts.{one_page}
 use Rattle.reasons.proofs.why.Reads as why
 use Rattle.reasons.proofs.text.Reads as text
 
@@ -10,6 +12,6 @@ pub record Outcomes : Type 0 where
 pub the_outcomes : Outcomes
 the_outcomes =
     record {
-      why = λ κs a r r' s s' p q. (only p.place q.place, only p.is q.is);
-      text = λ κs a r r' s s' p q. (only p.place q.place, only p.is q.is);
+      why = λ κs a r r' s s' p q. (refl, one_page s.0.now s'.0.now p q);
+      text = λ κs a r r' s s' p q. (refl, one_page s.1.0.now s'.1.0.now p q);
     }

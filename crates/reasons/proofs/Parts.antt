@@ -4,8 +4,10 @@ use mathlib.Core.Path.{◌≡◌, refl}
 use mathlib.Core.List.{◌∷◌, ◌++◌}
 use Rattle.rules.specs.declared.Tick.{Tick}
 use Rattle.rules.specs.declared.Reason.TheVariants.{NonePending, ItRuns, Earlier, ThereFirst}
-use Rattle.rules.specs.declared.Why.{Why}
-use Rattle.rules.specs.declared.Why.TheVariants.{Because, Refused}
+use Rattle.std.specs.Prelude.{Result, Ok, Err}
+use Rattle.rules.specs.declared.Reason.{Reason}
+use Rattle.rules.specs.declared.CallRefusal.{CallRefusal}
+use Rattle.rules.specs.Answers.{call_number}
 use Rattle.rules.specs.Print.{ascii, decimal, spaced}
 use Rattle.rules.specs.WhyPrint.{reason_words, why_words, why_text}
 use Rattle.reasons.specs.Words.{waits_text}
@@ -26,15 +28,15 @@ pub there_words : (m : ℕ) (t : Tick) → waits_text m (ascii " was there first
 unfolding spaced
 there_words m t = refl
 
-pub refused_words : (k : ℕ) → ascii "is refused: " ++ decimal k ≡ spaced (why_words (Refused k))
+pub refused_words : (k : CallRefusal) → ascii "is refused: " ++ decimal (call_number k) ≡ spaced (why_words (Err k))
 unfolding spaced
 refused_words k = refl
 
 -- the task, and then an answer's words
-pub line_words : (n : ℕ) (w : Why) → ascii "task " ++ (decimal n ++ (32 ∷ spaced (why_words w))) ≡ why_text n w
+pub line_words : (n : ℕ) (w : Result Reason CallRefusal) → ascii "task " ++ (decimal n ++ (32 ∷ spaced (why_words w))) ≡ why_text n w
 unfolding why_text spaced
-line_words n (Refused k) = refl
-line_words n (Because NonePending) = refl
-line_words n (Because ItRuns) = refl
-line_words n (Because (Earlier m t)) = refl
-line_words n (Because (ThereFirst m t)) = refl
+line_words n (Err k) = refl
+line_words n (Ok NonePending) = refl
+line_words n (Ok ItRuns) = refl
+line_words n (Ok (Earlier m t)) = refl
+line_words n (Ok (ThereFirst m t)) = refl

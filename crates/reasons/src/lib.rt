@@ -8,110 +8,90 @@ ghost use Rattle.print.specs.Buffers.{Put};
 ghost use Rattle.reasons.specs.Words.{waits_text};
 ghost use Rattle.reasons.specs.Claims.{Claims};
 
-use print::ROOM;
-use rules::{Opening, Reason, Tick, Why};
+use print::Page;
+use rules::{CallRefusal, Reason, Tick};
 use scheduler::State;
 use streams::STDOUT_FILENO;
 
-// ---- a task's line: each part is put at a place, and gives the place behind it
+// ---- a task's line, part by part
 
 // Of a job that waits: the task that runs, how it stands, and its deadline.
-fn waits(out: &mut [u8; ROOM], at: usize, task: u8, how: &[u8], due: Tick) -> usize
-    ensures { Put out.old at (waits_text task how.now due) out.new result }
+fn waits(page: &mut Page, task: u8, how: &[u8], due: Tick)
+    ensures { Put page.old.bytes page.old.len (waits_text task how.now due) page.new.bytes page.new.len }
 {
-    let next = print::words(out, at, b"is waiting: task ");
-    let next = print::number(out, next, task as u64);
-    let next = print::words(out, next, how);
-    print::number(out, next, due.0)
+    page.words(b"is waiting: task ");
+    page.number(task as u64);
+    page.words(how);
+    page.number(due.0);
 }
 
 // A reason's words.
-fn because(out: &mut [u8; ROOM], at: usize, reason: Reason) -> usize
-    ensures { Put out.old at (spaced (reason_words reason)) out.new result }
+fn because(page: &mut Page, reason: Reason)
+    ensures { Put page.old.bytes page.old.len (spaced (reason_words reason)) page.new.bytes page.new.len }
 {
     match reason {
-        Reason::NonePending => print::words(out, at, b"has no pending job"),
-        Reason::ItRuns => print::words(out, at, b"is running"),
-        Reason::Earlier(task, due) => waits(
-            out,
-            at,
-            task,
-            b" is running with the earlier deadline ",
-            due,
-        ),
-        Reason::ThereFirst(task, due) => waits(
-            out,
-            at,
-            task,
-            b" was there first and is running with the same deadline ",
-            due,
-        ),
+        Reason::NonePending => page.words(b"has no pending job"),
+        Reason::ItRuns => page.words(b"is running"),
+        Reason::Earlier(task, due) => waits(page, task, b" is running with the earlier deadline ", due),
+        Reason::ThereFirst(task, due) => waits(page, task, b" was there first and is running with the same deadline ", due),
     }
 }
 
 // An answer's words.
-fn told(out: &mut [u8; ROOM], at: usize, why: Why) -> usize
-    ensures { Put out.old at (spaced (why_words why)) out.new result }
+fn told(page: &mut Page, answer: Result<Reason, CallRefusal>)
+    ensures { Put page.old.bytes page.old.len (spaced (why_words answer)) page.new.bytes page.new.len }
 {
-    match why {
-        Why::Because(reason) => because(out, at, reason),
-        Why::Refused(number) => {
-            let next = print::words(out, at, b"is refused: ");
-            print::number(out, next, number as u64)
+    match answer {
+        Ok(reason) => because(page, reason),
+        Err(refusal) => {
+            page.words(b"is refused: ");
+            page.number(u8::from(refusal) as u64);
         }
     }
 }
 
 // A task's line without its newline.
-pub fn why(out: &mut [u8; ROOM], at: usize, task: u8, answer: Why) -> usize
-    ensures { Put out.old at (why_text task answer) out.new result }
+pub fn why(page: &mut Page, task: u8, answer: Result<Reason, CallRefusal>)
+    ensures { Put page.old.bytes page.old.len (why_text task answer) page.new.bytes page.new.len }
 {
-    let next = print::words(out, at, b"task ");
-    let next = print::number(out, next, task as u64);
-    let next = print::byte(out, next, b' ');
-    told(out, next, answer)
+    page.words(b"task ");
+    page.number(task as u64);
+    page.byte(b' ');
+    told(page, answer);
 }
 
 // ---- the whole print
 
 // A line for each task of a state's table.
-fn lines(out: &mut [u8; ROOM], at: usize, state: State) -> usize
+fn lines(page: &mut Page, state: State)
     requires { Handed state }
-    ensures { Put out.old at (why_lines (table_of state) (head_of state).board) out.new result }
+    ensures { Put page.old.bytes page.old.len (why_lines (table_of state) (head_of state).board) page.new.bytes page.new.len }
 {
-    let table = state.table;
-    let n = table.count;
-    let mut next = at;
-    let mut task: u8 = 0;
-    while (task as usize) < n {
-        let answer = scheduler::why(state, task);
-        let behind = why(out, next, task, answer);
-        next = print::byte(out, behind, b'\n');
-        task += 1;
+    let count = state.table.count as u8;
+    for task in 0..count {
+        why(page, task, scheduler::why(state, task));
+        page.byte(b'\n');
     }
-    next
 }
 
 // What is printed for a tape: it is run with no print, and then each task's line is put, and a bad record's behind them. A table or a tape that is refused before has its one line.
-pub fn text(tape: &[u8], out: &mut [u8; ROOM], at: usize) -> usize
-    ensures { Put out.old at (why_transcript tape.now) out.new result }
+pub fn text(tape: &[u8], page: &mut Page)
+    ensures { Put page.old.bytes page.old.len (why_transcript tape.now) page.new.bytes page.new.len }
 {
     let opened = transcript::open(tape);
-    let answer = opened.answer;
-    let Opening::Accepted = answer else {
-        return transcript::open_line(out, at, answer);
+    let Ok(run) = opened else {
+        return transcript::open_line(page, &opened);
     };
-    let ran = transcript::run_out(tape, opened.run);
-    let next = lines(out, at, ran.state);
-    let halt = ran.halt;
-    transcript::halt_line(out, next, halt)
+    let ran = transcript::run_out(tape, run);
+    lines(page, ran.state);
+    transcript::halt_line(page, ran.halt);
 }
 
 // Prints it. False where standard output takes no more.
 pub fn write(tape: &[u8]) -> bool {
-    let mut out = io::large_buffer();
-    let n = text(tape, &mut out, 0);
-    print::send(STDOUT_FILENO, &out, n)
+    let mut page = Page::new();
+    text(tape, &mut page);
+    page.send(STDOUT_FILENO)
 }
 
 // Does nothing. Its contract is all of specs/Claims, so that a claim without a proof fails the check.

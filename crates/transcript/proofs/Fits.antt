@@ -3,22 +3,22 @@ use Prim.Native.Nat.{ℕ, zero, suc, ◌+◌, ◌*◌, ◌≤◌}
 use mathlib.Core.Path.{◌≡◌, ap, ◌∙◌, subst⁻¹}
 use mathlib.Core.Bool.{Bool, true, false, cond}
 use mathlib.Core.List.{List, [], ◌∷◌, ◌++◌}
+use Rattle.std.specs.Prelude.{Some, None, Ok, Err}
 use native.Mathlib.Omega.{arith}
 use lib.Dec.{ltb}
 use lib.ListN.{length, take, length-append, length-take}
 use Prim.Native.Nat.{◌/◌, ◌%◌}
 use Rattle.rules.specs.declared.Tick.{Tick}
 use Rattle.rules.specs.declared.Answer.{Answer}
-use Rattle.rules.specs.declared.Choice.{Choice}
-use Rattle.rules.specs.declared.Choice.TheVariants.{Idle, Runs}
 use Rattle.rules.specs.declared.KernelCall.{KernelCall}
 use Rattle.rules.specs.declared.KernelCall.TheVariants.{NoCall, ActivateTask, ChainTask, TerminateTask}
 use Rattle.rules.specs.declared.Call.{Call}
-use Rattle.rules.specs.declared.RecordRead.{RecordRead}
-use Rattle.rules.specs.declared.RecordRead.TheVariants.{Record, End, Refused}
+use Rattle.rules.specs.Answers.{Choice}
 use Rattle.rules.specs.Table.{Table}
 use Rattle.rules.specs.Layer.{Board, answer}
 use Rattle.rules.specs.Run.{Head, Reached}
+use Rattle.rules.specs.Number.{tape_number}
+use Rattle.rules.specs.Tape.{RecordRead}
 use Rattle.rules.specs.Print.{ascii, decimal_in, decimal, spaced, ended, run_text, due_text, call_text, comma_tasks, tasks_text, answer_text, tape_text}
 use Rattle.rules.proofs.Reached.{reached_keeps, reached_board}
 use Rattle.rules.proofs.Places.{places_suffice}
@@ -43,12 +43,12 @@ pub number_few : (n : ℕ) → length (decimal n) ≤ 20
 number_few n = digits_few 20 n
 
 run_few : (x : Choice) → length (run_text x) ≤ 20
-run_few Idle = omega arith
-run_few (Runs n t) = number_few n
+run_few None = omega arith
+run_few (Some r) = number_few r.task
 
 due_few : (x : Choice) → length (due_text x) ≤ 20
-due_few Idle = omega arith
-due_few (Runs n t) = number_few t.0
+due_few None = omega arith
+due_few (Some r) = number_few r.due.0
 
 call_few : (x : KernelCall) → length (call_text x) ≤ 21
 call_few NoCall = omega arith
@@ -102,6 +102,6 @@ unfolding called_of
 lines_fit tape x d = go (read_in tape x)
   where
     go : (r : RecordRead) → length (line_text x r) ≤ line_most
-    go (Record e n) = line_few _ (step_of x.state e).answer (answer_places x.state d e)
-    go End = omega arith
-    go (Refused k) = stop_few k x.at
+    go (Ok (Some t)) = line_few _ (step_of x.state t.value).answer (answer_places x.state d t.value)
+    go (Ok None) = omega arith
+    go (Err k) = stop_few (tape_number k) x.at

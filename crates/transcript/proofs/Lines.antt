@@ -1,21 +1,20 @@
 -- The print goes line by line. Assumes nothing.
 use Prim.Native.Nat.{ℕ, ◌+◌, ◌-◌, ◌≤◌, ◌<◌}
 use mathlib.Core.Path.{◌≡◌, refl, sym, ap, ◌∙◌, subst⁻¹}
-use mathlib.Core.Bool.{Bool, true, false, not, cond, false≢true}
+use mathlib.Core.Bool.{Bool, true, false, not}
 use mathlib.Core.Logic.{◌⊎◌, inl, inr, ⊎_elim}
+use Rattle.std.specs.Prelude.{Option, Some, None, Ok, Err, IfSome}
 use native.Mathlib.Omega.{arith}
 use lib.ListN.{length, take, length-append, length-take}
 use lib.Seq.{sets, length-sets, sets-eq, take_all, take-append_seam}
-use mathlib.Core.List.{List, [], ◌++◌, append-nil, append_assoc}
+use mathlib.Core.List.{List, ◌++◌, append-nil, append_assoc}
 use Rattle.rules.specs.declared.Tick.{Tick}
-use Rattle.rules.specs.declared.Call.{Call}
-use Rattle.rules.specs.declared.RecordRead.{RecordRead}
-use Rattle.rules.specs.declared.RecordRead.TheVariants.{Record, End, Refused}
 use Rattle.rules.specs.Table.{Table}
 use Rattle.rules.specs.Calls.{tick_of}
 use Rattle.rules.specs.Layer.{next, answer}
 use Rattle.rules.specs.Run.{Head, head_next, Reached}
-use Rattle.rules.specs.Tape.{after_record, records_at}
+use Rattle.rules.specs.Number.{tape_number}
+use Rattle.rules.specs.Tape.{RecordRead, after_record, records_at}
 use Rattle.rules.specs.Print.{ended, answer_text, tape_text, calls_text, records_text}
 use Rattle.rules.proofs.Reached.{reached_next}
 use Rattle.tape.proofs.Records.{forward}
@@ -27,11 +26,13 @@ use Rattle.scheduler.proofs.Back.{step_is}
 use Rattle.scheduler.proofs.Handed.{handed_by}
 use Rattle.transcript.specs.declared.Run.{Run}
 use Rattle.print.specs.Buffers.{fits_at, Put}
-use Rattle.transcript.specs.declared.Lined.{Lined}
-use Rattle.transcript.specs.Pieces.{called_of, read_in, stop_line, line_text, goes_on, run_after, rest_text, left_text, buffer_room, line_most, NextLine, Piece}
+use Rattle.transcript.specs.Pieces.{called_of, read_in, halt_of, halt_text, line_text, run_after, rest_text, left_text, buffer_room, line_most, NextLine, Piece}
 use Rattle.transcript.specs.Claims.{LineByLine}
 use Rattle.transcript.proofs.Opens.{rest_is}
 use Rattle.transcript.proofs.Fits.{lines_fit}
+
+pub some_none : {A B : Type 0} {x : A} → Some x ≡ None → B
+some_none e = let z : ◌≡◌ {A = ℕ} 0 1 = cc in absurd (omega arith)
 
 module _ (T : Table) (h : Head) (r : Reached T h) (tape : List ℕ) (at : ℕ) (preceding : Tick) where
   abbrev here : Run
@@ -39,48 +40,45 @@ module _ (T : Table) (h : Head) (r : Reached T h) (tape : List ℕ) (at : ℕ) (
 
   -- what is read here, and what is printed from here on
   abbrev Prints : RecordRead → Type 0
-  Prints x =
-      records_text T h.board (after_record at x (records_at tape))
-      ≡ line_text here x ++ cond (goes_on x) (rest_text tape (run_after here x)) []
+  Prints x = records_text T h.board (after_record at x (records_at tape)) ≡ line_text here x ++ left_text tape (run_after here x)
 
   prints : (x : RecordRead) → Prints x
   unfolding calls_text called_of told
-  prints (Record e n) =
+  prints (Ok (Some t)) =
+      let e = t.value in
       let s : step_of (state_of T h) e ≡ told T h e = step_is T h r e in
-      let line : ended (answer_text (tick_of e) (answer T h.board e)) ≡ line_text here (Record e n) =
+      let line : ended (answer_text (tick_of e) (answer T h.board e)) ≡ line_text here (Ok (Some t)) =
       ap (λ (z : Stepped). ended (answer_text (tick_of e) z.answer)) (sym s) in
-      let rest : records_text T (next T h.board e) (records_at tape n (tick_of e)) ≡ rest_text tape (run_after here (Record e n)) =
-      sym (rest_is T (head_next T h e) (reached_next T h r e) tape n (tick_of e))
-      ∙ ap (λ (z : Stepped). rest_text tape (record { state = z.state; at = n; preceding = tick_of e })) (sym s) in
+      let rest : records_text T (next T h.board e) (records_at tape t.next (tick_of e)) ≡ rest_text tape (called_of here e t.next).run =
+      sym (rest_is T (head_next T h e) (reached_next T h r e) tape t.next (tick_of e))
+      ∙ ap (λ (z : Stepped). rest_text tape (record { state = z.state; at = t.next; preceding = tick_of e })) (sym s) in
       append_assoc (ended (answer_text (tick_of e) (answer T h.board e))) _ _
       ∙ (λ i. line i ++ rest i)
-  prints End = refl
-  prints (Refused k) = sym (append-nil (ended (tape_text k at)))
+  prints (Ok None) = refl
+  prints (Err k) = sym (append-nil (ended (tape_text (tape_number k) at)))
 
-  by_line : rest_text tape here ≡ line_text here (read_in tape here) ++ cond (goes_on (read_in tape here)) (rest_text tape (run_after here (read_in tape here))) []
+  by_line : rest_text tape here ≡ line_text here (read_in tape here) ++ left_text tape (run_after here (read_in tape here))
   by_line = rest_is T h r tape at preceding ∙ ap (records_text T h.board) (records_step tape at preceding) ∙ prints (read_in tape here)
 
 pub line_by_line : LineByLine
 line_by_line tape x d =
     handed_by (λ (s : State). let y : Run = record { state = s; at = x.at; preceding = x.preceding } in
-    rest_text tape y ≡ line_text y (read_in tape y) ++ cond (goes_on (read_in tape y)) (rest_text tape (run_after y (read_in tape y))) [])
+    rest_text tape y ≡ line_text y (read_in tape y) ++ left_text tape (run_after y (read_in tape y)))
     (λ T h r. by_line T h r tape x.at x.preceding) x.state d
 
 -- ---- where the run goes on it goes ahead
 
-goes_ahead : (tape : List ℕ) (x : Run) → goes_on (read_in tape x) ≡ true
-    → (x.at < (run_after x (read_in tape x)).at) × ((run_after x (read_in tape x)).at ≤ length tape)
+abbrev pub Ahead : List ℕ → Run → Option Run → Type 0
+Ahead tape x r = IfSome r (λ (y : Run). (x.at < y.at) × (y.at ≤ length tape))
+
+goes_ahead : (tape : List ℕ) (x : Run) → Ahead tape x (run_after x (read_in tape x))
 unfolding called_of
 goes_ahead tape x = go (read_in tape x) refl
   where
-    go : (r : RecordRead) → read_in tape x ≡ r → goes_on r ≡ true → (x.at < (run_after x r).at) × ((run_after x r).at ≤ length tape)
-    go (Record e n) q h = forward tape x.at x.preceding e n q
-    go End q h = absurd (false≢true h)
-    go (Refused k) q h = absurd (false≢true h)
-
-pub line_ahead : (tape : List ℕ) (x : Run) (old : List ℕ) (at : ℕ) (r : Lined) (new : List ℕ) → NextLine tape x old at r new → r.more ≡ true
-    → (x.at < r.run.at) × (r.run.at ≤ length tape)
-line_ahead tape x old at r new l h = subst⁻¹ (λ (y : Run). (x.at < y.at) × (y.at ≤ length tape)) l.run (goes_ahead tape x (sym l.more ∙ h))
+    go : (r : RecordRead) → read_in tape x ≡ r → Ahead tape x (run_after x r)
+    go (Ok (Some t)) q = forward tape x.at x.preceding t.value t.next q
+    go (Ok None) q = tt
+    go (Err k) q = tt
 
 -- ---- the buffer
 
@@ -102,29 +100,29 @@ pub put_length : {old new text : List ℕ} {at next : ℕ} → Put old at text n
 put_length {old} {new} {text} {at} p = ap length p.is ∙ length-sets old at (fits_at old at text)
 
 -- a line is a piece of the print
-pub line_piece : (tape : List ℕ) (x : Run) (old : List ℕ) (at : ℕ) (r : Lined) (new : List ℕ) → Handed x.state → at + line_most ≤ length old
-    → NextLine tape x old at r new → Piece tape x old at r new
-line_piece tape x old at r new d room l =
+pub line_piece : (tape : List ℕ) (x : Run) (old : List ℕ) (at : ℕ) (r : Option Run) (new : List ℕ) (next : ℕ) → Handed x.state → at + line_most ≤ length old
+    → NextLine tape x old at r new next → Piece tape x old at r new next
+line_piece tape x old at r new next d room l =
     let fits : length (line_text x (read_in tape x)) ≤ line_most = lines_fit tape x d in
-    let w = put_whole old new (line_text x (read_in tape x)) at r.next l.line (omega arith) in
+    let w = put_whole old new (line_text x (read_in tape x)) at next l.line (omega arith) in
     record {
       room = omega (arith, w.0, w.1);
       same = w.1;
       is =
-          (λ i. w.2 i ++ cond (l.more i) (rest_text tape (l.run i)) [])
+          (λ i. w.2 i ++ left_text tape (l.run i))
           ∙ append_assoc (take at old) (line_text x (read_in tape x)) _
           ∙ ap (λ (s : List ℕ). take at old ++ s) (sym (line_by_line tape x d));
-      ahead = line_ahead tape x old at r new l;
+      ahead = subst⁻¹ (Ahead tape x) l.run (goes_ahead tape x);
       handed = l.handed;
     }
 
 -- ---- what stops a run
 
--- an answer of the reader that is no record
-pub stops : (x : Run) (r : RecordRead) → ((e : Call) (n : ℕ) → r ≡ Record e n → ⊥) → (goes_on r ≡ false) × (line_text x r ≡ stop_line x.at r) × (run_after x r ≡ x)
-stops x (Record e n) h = absurd (h e n refl)
-stops x End h = (refl, refl, refl)
-stops x (Refused k) h = (refl, refl, refl)
+-- the line of an answer of the reader that is no record
+pub stops : (x : Run) (r : RecordRead) → run_after x r ≡ None → halt_text (halt_of x.at r) ≡ line_text x r
+stops x (Ok (Some t)) h = some_none h
+stops x (Ok None) h = refl
+stops x (Err k) h = refl
 
 -- ---- a piece of lines
 
@@ -149,47 +147,39 @@ pub record SoFar (tape : List ℕ) (x : Run) (old : List ℕ) (at : ℕ) (now : 
 pub so_far_none : (tape : List ℕ) (x : Run) (old : List ℕ) (at : ℕ) → length old ≡ buffer_room → at + line_most ≤ buffer_room → Handed x.state → SoFar tape x old at x at old
 so_far_none tape x old at l h d = record { long = l; same = refl; room = omega arith; is = refl; on = omega arith; begun = inl refl; handed = d }
 
-module _ (tape : List ℕ) (x : Run) (old : List ℕ) (at : ℕ) (now : Run) (next : ℕ) (new : List ℕ) (s : SoFar tape x old at now next new) where
-  module _ (r : Lined) (new' : List ℕ) (h : next + line_most ≤ buffer_room) (l : NextLine tape now new next r new') where
-    the_line : Piece tape now new next r new'
-    the_line = line_piece tape now new next r new' s.handed (omega (arith, s.same, s.long)) l
+module _ (tape : List ℕ) (x : Run) (old : List ℕ) (at : ℕ) (now : Run) (next : ℕ) (new : List ℕ) (s : SoFar tape x old at now next new) (new' : List ℕ) (next' : ℕ) where
+  module _ (h : next + line_most ≤ buffer_room) where
+    -- one line more
+    pub so_far_ahead : (r : Run) → NextLine tape now new next (Some r) new' next' → (now.at < r.at) × (r.at ≤ length tape)
+    so_far_ahead r l = (line_piece tape now new next (Some r) new' next' s.handed (omega (arith, s.same, s.long)) l).ahead
 
-    all_is : take r.next new' ++ left_text tape r ≡ take at old ++ rest_text tape x
-    all_is = the_line.is ∙ s.is
-
-    pub so_far_ahead : r.more ≡ true → (now.at < r.run.at) × (r.run.at ≤ length tape)
-    so_far_ahead m = the_line.ahead m
-
-    pub so_far_line : r.more ≡ true → SoFar tape x old at r.run r.next new'
-    so_far_line m =
-        let p = the_line in
-        let a = p.ahead m in
+    pub so_far_line : (r : Run) → NextLine tape now new next (Some r) new' next' → SoFar tape x old at r next' new'
+    so_far_line r l =
+        let p = line_piece tape now new next (Some r) new' next' s.handed (omega (arith, s.same, s.long)) l in
         record {
           long = s.long;
           same = p.same ∙ s.same;
           room = omega (arith, p.room, p.same, s.same, s.long);
-          is = ap (λ (b : Bool). take r.next new' ++ cond b (rest_text tape r.run) []) (sym m) ∙ all_is;
-          on = omega (arith, s.on, a.0);
-          begun = inr (omega (arith, s.on, a.0), a.1);
+          is = p.is ∙ s.is;
+          on = omega (arith, s.on, p.ahead.0);
+          begun = inr (omega (arith, s.on, p.ahead.0), p.ahead.1);
           handed = p.handed;
         }
 
-    pub so_far_stopped : r.more ≡ false → Piece tape x old at (record { more = false; next = r.next; run = r.run }) new'
-    so_far_stopped m =
-        record {
-          room = the_line.room;
-          same = the_line.same ∙ s.same;
-          is = ap (λ (b : Bool). take r.next new' ++ cond b (rest_text tape r.run) []) (sym m) ∙ all_is;
-          ahead = λ h. absurd (false≢true h);
-          handed = the_line.handed;
-        }
+    -- the last line
+    pub so_far_stopped : NextLine tape now new next None new' next' → Piece tape x old at None new' next'
+    so_far_stopped l =
+        let p = line_piece tape now new next None new' next' s.handed (omega (arith, s.same, s.long)) l in
+        record { room = p.room; same = p.same ∙ s.same; is = p.is ∙ s.is; ahead = tt; handed = tt }
 
-  pub so_far_full : at + line_most ≤ buffer_room → buffer_room < next + line_most → Piece tape x old at (record { more = true; next = next; run = now }) new
+module _ (tape : List ℕ) (x : Run) (old : List ℕ) (at : ℕ) (now : Run) (next : ℕ) (new : List ℕ) (s : SoFar tape x old at now next new) where
+  -- no room is kept for one more
+  pub so_far_full : at + line_most ≤ buffer_room → buffer_room < next + line_most → Piece tape x old at (Some now) new next
   so_far_full h l =
       record {
         room = omega (arith, s.room, s.same, s.long);
         same = s.same;
         is = s.is;
-        ahead = λ m. ⊎_elim {C = (x.at < now.at) × (now.at ≤ length tape)} (λ (e : next ≡ at). absurd (omega arith)) (λ a. a) s.begun;
+        ahead = ⊎_elim {C = (x.at < now.at) × (now.at ≤ length tape)} (λ (e : next ≡ at). absurd (omega arith)) (λ a. a) s.begun;
         handed = s.handed;
       }

@@ -1,5 +1,7 @@
--- One outcome: any two that satisfy what the source of a public function ensures are equal, its lent buffer included. A field for each. Assumes nothing.
+-- One outcome: any two that satisfy what the source of a public function ensures are equal, its lent page included. A field for each. Assumes nothing.
+use mathlib.Core.Path.{refl}
 use Rattle.rules.proofs.Outcome.{OneStated, OneStatedWith, only}
+use Rattle.print.proofs.Texts.{one_page}
 use Rattle.transcript.proofs.Ones.{one_lined}
 use Rattle.transcript.proofs.open.Reads as opens
 use Rattle.transcript.proofs.open_line.Reads as open_line
@@ -18,8 +20,8 @@ pub the_outcomes : Outcomes
 the_outcomes =
     record {
       «open» = λ κs a r r' s s' p q. only p.0 q.0;
-      open_line = λ κs a r r' s s' p q. (only p.place q.place, only p.is q.is);
-      next_line = λ κs a r r' s s'. one_lined a.0.now a.1.0 a.1.1.0.now a.1.1.1.0 r r' s.1.1.0.now s'.1.1.0.now;
+      open_line = λ κs a r r' s s' p q. (refl, one_page s.0.now s'.0.now p q);
+      next_line = λ κs a r r' s s'. one_lined a.0.now a.1.0 a.1.1.0.now.bytes a.1.1.0.now.len r r' s.1.1.0.now s'.1.1.0.now;
       run_out = λ κs a r r' s s' p q. only p.0 q.0;
-      halt_line = λ κs a r r' s s' p q. (only p.place q.place, only p.is q.is);
+      halt_line = λ κs a r r' s s' p q. (refl, one_page s.0.now s'.0.now p q);
     }

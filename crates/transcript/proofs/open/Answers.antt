@@ -1,46 +1,48 @@
 -- `transcript::open` meets its contract. Assumes nothing.
-use mathlib.Core.Path.{◌≡◌, sym, ap, ◌∙◌}
-use mathlib.Core.Bool.{true, false}
-use Rattle.rules.specs.Number.{bounded_at}
-use Rattle.rules.specs.Tape.{greatest_byte, table_at}
+use mathlib.Core.Path.{◌≡◌, refl, sym, ap, ◌∙◌}
+use mathlib.Core.Bool.{false}
+use borrow.Author.Rules.{rules}
+use Rattle.std.specs.Prelude.{Ok, Err}
+use Rattle.rules.specs.declared.TapeRefusal.{TapeRefusal}
+use Rattle.rules.specs.declared.Unopened.{Unopened}
+use Rattle.rules.specs.declared.Unopened.TheVariants.{BadTape}
+use Rattle.rules.specs.Number.{Read, bounded_at}
+use Rattle.rules.specs.Tape.{greatest_byte}
 use Rattle.rules.specs.Print.{count_above}
-use Rattle.tape.specs.declared.TableRead.{TableRead}
-use Rattle.tape.specs.declared.TapeTable.{TapeTable}
-use Rattle.tape.specs.Tables.{table_in}
-use Rattle.scheduler.specs.State.{checked_of}
+use Rattle.table.specs.declared.TaskTable.{TaskTable}
 use Rattle.transcript.proofs.Opens.{opened_as_lem, opens_26, opens_above, opens_unread, opens_refused, opens_accepted}
 use Rattle.transcript.proofs.open.Goals as goal
 
 pub returns-then-tape-gt-MOST_BYTES : goal.returns-then-tape-gt-MOST_BYTES
-returns-then-tape-gt-MOST_BYTES c =
-    let t = c.args.tape.now in
-    opened_as_lem t _ (c.closed.ensures ∙ sym (opens_26 t c.if-tape-gt-MOST_BYTES.true))
+returns-then-tape-gt-MOST_BYTES c = opened_as_lem c.args.tape.now _ (sym (opens_26 c.args.tape.now c.if-tape-gt-MOST_BYTES.true))
 
 pub returns-then-is_above : goal.returns-then-is_above
 returns-then-is_above c =
     let t = c.args.tape.now in
-    let above : count_above (bounded_at greatest_byte t 0) ≡ true = sym (ap count_above c.read_count.ensures) ∙ sym c.is_above.ensures ∙ c.if-is_above.true in
-    opened_as_lem t _ (c.closed-then-is_above.ensures ∙ sym (opens_above t c.if-tape-gt-MOST_BYTES.false above))
+    opened_as_lem t _ (sym (opens_above t c.if-tape-gt-MOST_BYTES.false (sym (ap count_above c.read_count.ensures) ∙ sym c.is_above.ensures ∙ c.if-is_above.true)))
 
-pub returns-then-verdict-ne0 : goal.returns-then-verdict-ne0
-returns-then-verdict-ne0 c =
+pub returns-in_err-read : goal.returns-in_err-read
+returns-in_err-read c =
     let t = c.args.tape.now in
     let few : count_above (bounded_at greatest_byte t 0) ≡ false = sym (ap count_above c.read_count.ensures) ∙ sym c.is_above.ensures ∙ c.if-is_above.false in
-    let told : (table_in (table_at t)).answer ≡ TableRead.Table c.in-Table.next = sym (ap (λ (x : TapeTable). x.answer) c.read_table-told.ensures) ∙ c.in-Table.is in
-    let checked : c.check-r.result ≡ checked_of (table_in (table_at t)).table = c.check-r.ensures.0 ∙ ap (λ (x : TapeTable). checked_of x.table) c.read_table-told.ensures in
-    opened_as_lem t _ (c.closed-then-verdict-ne0.ensures ∙ sym (opens_refused t c.if-tape-gt-MOST_BYTES.false few _ c.check-r.result told checked c.if-verdict-ne0.true))
+    let out : c.from_residual.result ≡ Err c.in_err-read.field-0.0 = search rules in
+    let k = unread c.read_table.result refl in
+    opened_as_lem t _ (out ∙ ap (λ (u : Unopened). Err u) k.2 ∙ sym (opens_unread t c.if-tape-gt-MOST_BYTES.false few k.0 (sym c.read_table.ensures ∙ k.1)))
+  where
+    unread : (r : Read TaskTable) → c.read_table.result ≡ r → (k : TapeRefusal) × (c.read_table.result ≡ Err k) × (c.in_err-read.field-0.0 ≡ BadTape (record { refusal = k; place = 0 }))
+    unread (Err k) e = (k, e, search rules)
+    unread (Ok t) e = absurd (search rules)
 
-pub returns-in-Refused : goal.returns-in-Refused
-returns-in-Refused c =
+pub returns-then-checked-ne0 : goal.returns-then-checked-ne0
+returns-then-checked-ne0 c =
     let t = c.args.tape.now in
     let few : count_above (bounded_at greatest_byte t 0) ≡ false = sym (ap count_above c.read_count.ensures) ∙ sym c.is_above.ensures ∙ c.if-is_above.false in
-    let told : (table_in (table_at t)).answer ≡ TableRead.Refused c.in-Refused.number = sym (ap (λ (x : TapeTable). x.answer) c.read_table-told.ensures) ∙ c.in-Refused.is in
-    opened_as_lem t _ (c.closed-in-Refused.ensures ∙ sym (opens_unread t c.if-tape-gt-MOST_BYTES.false few _ told))
+    let read : c.read_table.result ≡ Ok c.in_ok-read.read = search rules in
+    opened_as_lem t _ (sym (opens_refused t c.if-tape-gt-MOST_BYTES.false few _ c.check-checked.result (sym c.read_table.ensures ∙ read) c.check-checked.ensures.0 c.if-checked-ne0.true))
 
-pub returns-else-verdict-ne0 : goal.returns-else-verdict-ne0
-returns-else-verdict-ne0 c =
+pub returns : goal.returns
+returns c =
     let t = c.args.tape.now in
     let few : count_above (bounded_at greatest_byte t 0) ≡ false = sym (ap count_above c.read_count.ensures) ∙ sym c.is_above.ensures ∙ c.if-is_above.false in
-    let told : (table_in (table_at t)).answer ≡ TableRead.Table c.in-Table.next = sym (ap (λ (x : TapeTable). x.answer) c.read_table-told.ensures) ∙ c.in-Table.is in
-    let checked : c.check-r.result ≡ checked_of (table_in (table_at t)).table = c.check-r.ensures.0 ∙ ap (λ (x : TapeTable). checked_of x.table) c.read_table-told.ensures in
-    opened_as_lem t _ (sym (opens_accepted t c.if-tape-gt-MOST_BYTES.false few _ c.check-r.result told checked c.if-verdict-ne0.false))
+    let read : c.read_table.result ≡ Ok c.in_ok-read.read = search rules in
+    opened_as_lem t _ (sym (opens_accepted t c.if-tape-gt-MOST_BYTES.false few _ c.check-checked.result (sym c.read_table.ensures ∙ read) c.check-checked.ensures.0 c.if-checked-ne0.false))

@@ -3,8 +3,8 @@ use lib.ListN.{length}
 use Rattle.transcript.proofs.Lines.{SoFar}
 use Rattle.transcript.proofs.piece.Given as goal
 
-abbrev pub invariant-loop-next : goal.invariant-loop-next
-invariant-loop-next l = SoFar l.tape (record { state = l.initial.state; at = l.initial.place; preceding = l.initial.preceding }) l.initial.out l.at (record { state = l.state; at = l.place; preceding = l.preceding }) l.next l.out
+abbrev pub invariant-loop-page : goal.invariant-loop-page
+invariant-loop-page l = SoFar l.tape l.initial.run l.initial.page.bytes l.initial.page.len l.run l.page.len l.page.bytes
 
-abbrev pub decreases-loop-next : goal.decreases-loop-next
-decreases-loop-next l = length l.tape - l.place
+abbrev pub decreases-loop-page : goal.decreases-loop-page
+decreases-loop-page l = length l.tape - l.run.at

@@ -9,6 +9,6 @@ pub returns : goal.returns
 unfolding called_of
 returns c =
     let a = c.args in
-    let s : c.call-r.result ≡ step_of a.run.state a.call = c.call-r.ensures.0 in
+    let s : c.call-made.result ≡ step_of a.run.state a.call = c.call-made.ensures.0 in
     let t : c.tick_of.result ≡ tick_of a.call = c.tick_of.ensures in
-    (λ i. record { answer = (s i).answer; run = record { state = (s i).state; at = a.next; preceding = t i } }, c.call-r.ensures.1)
+    (λ i. record { answer = (s i).answer; run = record { state = (s i).state; at = a.next; preceding = t i } }, c.call-made.ensures.1)

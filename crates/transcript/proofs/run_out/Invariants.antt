@@ -7,7 +7,7 @@ use Rattle.transcript.proofs.run_out.Given as goal
 
 -- what is left to run from here is what was left from the start
 abbrev pub invariant-loop-call : goal.invariant-loop-call
-invariant-loop-call l = Handed l.at.state × (ran_of l.tape l.at ≡ ran_of l.tape l.initial.at)
+invariant-loop-call l = Handed l.run.state × (ran_of l.tape l.run ≡ ran_of l.tape l.initial.run)
 
 abbrev pub decreases-loop-call : goal.decreases-loop-call
-decreases-loop-call l = length l.tape - l.at.at
+decreases-loop-call l = length l.tape - l.run.at
