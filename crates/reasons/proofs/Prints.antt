@@ -9,7 +9,7 @@ use Rattle.rules.specs.Table.{Table}
 use Rattle.rules.specs.Layer.{fresh}
 use Rattle.rules.specs.Run.{run}
 use Rattle.rules.specs.Number.{Read, taken}
-use Rattle.rules.specs.Tape.{zero_tick, tape_of, table_at, at_end, Records, records_at, holds, after_table, read_tape}
+use Rattle.rules.specs.Tape.{zero_tick, tape_of, table_at, at_end, records_at, holds, after_table, read_tape}
 use Rattle.rules.specs.Print.{Opened, bad_tape, opening}
 use Rattle.rules.specs.WhyPrint.{why_lines, why_records, why_opened, why_transcript}
 use Rattle.tape.proofs.Tapes.{tape_back}

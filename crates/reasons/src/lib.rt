@@ -32,8 +32,18 @@ fn because(page: &mut Page, reason: Reason)
     match reason {
         Reason::NonePending => page.words(b"has no pending job"),
         Reason::ItRuns => page.words(b"is running"),
-        Reason::Earlier(task, due) => waits(page, task, b" is running with the earlier deadline ", due),
-        Reason::ThereFirst(task, due) => waits(page, task, b" was there first and is running with the same deadline ", due),
+        Reason::Earlier(task, due) => waits(
+            page,
+            task,
+            b" is running with the earlier deadline ",
+            due,
+        ),
+        Reason::ThereFirst(task, due) => waits(
+            page,
+            task,
+            b" was there first and is running with the same deadline ",
+            due,
+        ),
     }
 }
 
@@ -69,7 +79,8 @@ fn lines(page: &mut Page, state: State)
 {
     let count = state.table.count as u8;
     for task in 0..count {
-        why(page, task, scheduler::why(state, task));
+        let answer = scheduler::why(state, task);
+        why(page, task, answer);
         page.byte(b'\n');
     }
 }

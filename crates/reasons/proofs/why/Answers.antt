@@ -4,6 +4,4 @@ use Rattle.reasons.proofs.Parts.{line_words}
 use Rattle.reasons.proofs.why.Goals as goal
 
 pub returns : goal.returns
-returns c =
-    let a = c.args in
-    as_text (line_words a.task a.answer) (then c.words-next.ensures (then c.number-next.ensures (then c.byte-next.ensures c.told.ensures)))
+returns c = as_text (line_words c.args.task c.args.answer) (then c.words.ensures (then c.number.ensures (then c.byte.ensures c.told.ensures)))

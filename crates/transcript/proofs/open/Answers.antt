@@ -9,7 +9,7 @@ use Rattle.rules.specs.declared.Unopened.TheVariants.{BadTape}
 use Rattle.rules.specs.Number.{Read, bounded_at}
 use Rattle.rules.specs.Tape.{greatest_byte}
 use Rattle.rules.specs.Print.{count_above}
-use Rattle.table.specs.declared.TaskTable.{TaskTable}
+use Rattle.table.specs.Lines.{TaskTable}
 use Rattle.transcript.proofs.Opens.{opened_as_lem, opens_26, opens_above, opens_unread, opens_refused, opens_accepted}
 use Rattle.transcript.proofs.open.Goals as goal
 
