@@ -8,7 +8,7 @@ ghost use Rattle.script.specs.Texts.{IsFirstPart};
 
 use rules::{Call, Line, PLACES, Span, Tick};
 use std::fmt;
-use table::TaskTable;
+use table::{LineList, TaskTable};
 
 // ---- parts of a text
 
@@ -155,43 +155,33 @@ pub fn task_of(text: &[u8]) -> u8 {
 const MOST: usize = 255;
 
 // Lines by their places, and how many there are.
-#[derive(Clone, Copy)]
-pub struct Lines {
-    pub lines: [Line; MOST],
-    pub count: usize,
+pub type Lines = LineList<MOST>;
+
+// One more line; from 256 lines on nothing changes.
+fn put_line(told: &mut Lines, line: Line) {
+    if told.count <= MOST {
+        if told.count < MOST {
+            told.lines[told.count] = line;
+        }
+        told.count += 1;
+    }
 }
 
-impl Lines {
-    // Those that have a place.
-    pub fn as_slice(&self) -> &[Line] {
-        &self.lines[..self.count.min(MOST)]
+// '3 12 2': a line by its D, priority and limit; '32x 3 12 2': 32 such lines; words with no number behind them: none.
+fn put_entry(told: &mut Lines, text: &[u8]) {
+    let text = digits(text);
+    if text.is_empty() {
+        return;
     }
-
-    // One more line; from 256 lines on nothing changes.
-    fn push(&mut self, line: Line) {
-        if self.count <= MOST {
-            if self.count < MOST {
-                self.lines[self.count] = line;
+    let (times, rest) = number(text);
+    match rest {
+        [b'x', ..] => {
+            let line = line_of(rest);
+            for _ in 0..times {
+                put_line(told, line);
             }
-            self.count += 1;
         }
-    }
-
-    // '3 12 2': a line by its D, priority and limit; '32x 3 12 2': 32 such lines; words with no number behind them: none.
-    fn entry(&mut self, text: &[u8]) {
-        let text = digits(text);
-        if text.is_empty() {
-            return;
-        }
-        let (times, rest) = number(text);
-        match rest {
-            [b'x', ..] => {
-                for _ in 0..times {
-                    self.push(line_of(rest));
-                }
-            }
-            _ => self.push(line_of(text)),
-        }
+        _ => put_line(told, line_of(text)),
     }
 }
 
@@ -216,7 +206,7 @@ pub fn lines_of(text: &[u8]) -> Lines {
     // by what is left, not by parts: an entry may go on behind its comma
     let mut rest = text;
     while !rest.is_empty() {
-        told.entry(rest);
+        put_entry(&mut told, rest);
         rest = first_part(rest, b',').1;
     }
     told

@@ -6,6 +6,7 @@ ghost use Rattle.std.specs.Prelude.{◌≤◌, length};
 use rules::{Call, Line, Taken, TapeRefusal, Tick};
 use script::{Lines, ROOM, Room};
 use streams::STDOUT_FILENO;
+use tape::MOST_LINES;
 
 // ---- answers in words
 
@@ -199,7 +200,7 @@ fn write(text: &[u8], room: &mut Room<ROOM>) {
 fn agreeing(tape: &[u8], told: Lines) -> usize {
     let mut at = number::group_count(told.count as u64);
     let mut n = 0;
-    for given in told.as_slice() {
+    for given in &told.lines[..told.count.min(MOST_LINES)] {
         let Ok(taken) = tape::read_line(tape, at) else {
             return n;
         };
