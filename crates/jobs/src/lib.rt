@@ -31,7 +31,7 @@ fn blank() -> Job
 pub fn is_earlier(job: Job, other: Job) -> bool
     ensures { result ≡ is_earlier job other }
 {
-    job.due.0 < other.due.0
+    job.due < other.due
 }
 
 // The order of the list: whether a new job goes before one that is there. On equal deadlines it goes behind.

@@ -10,7 +10,7 @@ pub const PLACES: usize = 32;
 
 // A position in time.
 #[repr(C)]
-#[derive(Clone, Copy)]
+#[derive(Clone, Copy, PartialEq, PartialOrd)]
 pub struct Tick(pub u64);
 
 // A length of time. It is only ever added to a tick, never compared with one.

@@ -1,18 +1,15 @@
 -- Laws of ticks: what the sum is within reach and past it, and what a response is. Assumes nothing.
 use Prim.Native.Nat.{ℕ, suc, ◌+◌, ◌<◌, ◌≤◌, min}
 use mathlib.Core.Path.{◌≡◌, ap, sym, ◌∙◌}
-use mathlib.Core.Bool.{true, ◌||◌}
-use lib.Dec.{ltb}
 use native.Mathlib.Omega.{arith}
 use native.Mathlib.Decide.{dec_le}
-use borrow.Author.Tests.{lt-ltb, le-ltb}
+use borrow.Author.Tests.{lt-ltb}
 use Rattle.rules.specs.declared.Tick.{Tick}
 use Rattle.rules.specs.declared.Span.{Span}
 use Rattle.rules.specs.Table.{greatest, plus}
-use Rattle.rules.specs.Calls.{bad_tick}
 use Rattle.ticks.specs.Ticks.{sum, is_beyond}
 
-abbrev tick_at : ℕ → Tick
+abbrev pub tick_at : ℕ → Tick
 tick_at n = record { 0 = n }
 
 -- within reach it is the sum
@@ -38,10 +35,3 @@ sum_beyond t d = go (dec_le (plus t d).0 greatest.0)
     go (no h) =
         let far : greatest.0 < (plus t d).0 = omega arith in
         ap is_beyond (sum_far t d far) ∙ lt-ltb greatest.0 (suc greatest.0) (omega arith) ∙ sym (lt-ltb greatest.0 (plus t d).0 far)
-
--- a tick below the last is bad, and any other where it is beyond
-pub bad_below : (last at : Tick) → at.0 < last.0 → bad_tick last at ≡ true
-bad_below last at h = ap (λ z. z || ltb greatest.0 at.0) (lt-ltb at.0 last.0 h)
-
-pub bad_else : (last at : Tick) → last.0 ≤ at.0 → bad_tick last at ≡ ltb greatest.0 at.0
-bad_else last at h = ap (λ z. z || ltb greatest.0 at.0) (le-ltb at.0 last.0 h)

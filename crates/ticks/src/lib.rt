@@ -19,13 +19,7 @@ const BEYOND: u64 = GREATEST + 1;
 pub fn plus(at: Tick, deadline: Span) -> Tick
     ensures { result ≡ sum at deadline }
 {
-    if GREATEST < at.0 {
-        return Tick(BEYOND);
-    }
-    if GREATEST - at.0 < deadline.0 {
-        return Tick(BEYOND);
-    }
-    Tick(at.0 + deadline.0)
+    Tick(at.0.saturating_add(deadline.0).min(BEYOND))
 }
 
 // Above the greatest tick: 9 of a call, 23 of a record's ticks.
@@ -39,17 +33,14 @@ pub fn is_beyond(due: Tick) -> bool
 pub fn bad_tick(last: Tick, at: Tick) -> bool
     ensures { result ≡ bad_tick last at }
 {
-    if at.0 < last.0 {
-        return true;
-    }
-    GREATEST < at.0
+    at < last || is_beyond(at)
 }
 
 // Whether a pending job with this deadline is late at a call at this tick: one at or above the deadline.
 pub fn is_past(at: Tick, due: Tick) -> bool
     ensures { result ≡ is_past at due }
 {
-    due.0 <= at.0
+    due <= at
 }
 
 // The response of a job that ends at a tick: its relative deadline, and how long after its deadline it ends (or less how long before it).
@@ -58,13 +49,5 @@ pub fn response(at: Tick, due: Tick, deadline: Span) -> u64
     requires { (plus at deadline).0 ≤ greatest.0 + greatest.0 }
     ensures { result ≡ response_by at due deadline }
 {
-    if due.0 <= at.0 {
-        let after = Span(at.0 - due.0);
-        return after.0 + deadline.0;
-    }
-    let before = Span(due.0 - at.0);
-    if deadline.0 < before.0 {
-        return 0;
-    }
-    deadline.0 - before.0
+    (at.0 + deadline.0).saturating_sub(due.0)
 }

@@ -1,8 +1,9 @@
 -- `ticks::is_past` meets its contract. Assumes nothing.
-use mathlib.Core.Path.{refl}
+use Rattle.std.proofs.Common.{arith}
+use Rattle.std.proofs.lemmas.Grind.{common_steps}
 use Rattle.rules.specs.Late.{is_past}
 use Rattle.ticks.proofs.is_past.Goals as goal
 
 pub returns : goal.returns
 unfolding is_past
-returns c = refl
+returns c = grind (arith, common_steps)

@@ -1,20 +1,14 @@
 -- `ticks::plus` meets its contract. Assumes nothing.
-use mathlib.Core.Path.{sym}
+use Prim.Native.Nat.{suc, ◌+◌, min}
+use mathlib.Core.Path.{◌≡◌, ap}
 use native.Mathlib.Omega.{arith}
-use Rattle.ticks.proofs.Laws.{sum_near, sum_far}
+use Rattle.rules.specs.Table.{greatest}
+use Rattle.ticks.specs.Ticks.{sum}
+use Rattle.ticks.proofs.Laws.{tick_at}
 use Rattle.ticks.proofs.plus.Goals as goal
 
-pub returns-then-at-gt-GREATEST : goal.returns-then-at-gt-GREATEST
-returns-then-at-gt-GREATEST c =
-    let a = c.args in
-    sym (sum_far a.at a.deadline (omega arith))
-
-pub returns-then-at-deadline : goal.returns-then-at-deadline
-returns-then-at-deadline c =
-    let a = c.args in
-    sym (sum_far a.at a.deadline (omega arith))
-
 pub returns : goal.returns
+unfolding sum
 returns c =
-    let a = c.args in
-    sym (sum_near a.at a.deadline (omega arith))
+    let e : c.min.result ≡ min (c.args.at.0 + c.args.deadline.0) (suc greatest.0) = omega arith in
+    ap tick_at e
