@@ -1,8 +1,6 @@
 -- A copy of lent lines is as good as the lines. Assumes nothing.
-use Prim.Native.Nat.{ℕ, ◌≤◌}
-use mathlib.Core.Path.{◌≡◌, ap, ◌∙◌}
+use mathlib.Core.Path.{◌≡◌}
 use mathlib.Core.List.{List}
-use lib.ListN.{length, take}
 use Rattle.rules.specs.declared.Line.{Line}
 use Rattle.rules.specs.Words.{places}
 use Rattle.table.specs.Copy.{as_list, copy}

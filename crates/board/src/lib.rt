@@ -12,7 +12,6 @@ ghost use Rattle.board.specs.Claims.{Claims};
 use rules::{Answer, CallRefusal, Line, Reason, TapeRefusal, Tick};
 use scheduler::{Checked, State};
 use table::TaskTable;
-use tape::LineCopy;
 
 // ---- the check
 
@@ -77,11 +76,11 @@ pub fn why(s: &State, task: u8) -> Result<Reason, CallRefusal>
 
 // ---- the table on tape
 
-// The table of the lent lines, from the buffer's first byte on: the count of its bytes, or the refusal's number. Of more than 255 lines none is read.
+// The table of the lent lines, from the buffer's first byte on: the count of its bytes, or the refusal. Of more than 255 lines none is read.
 pub fn write_table(lines: &[Line], buf: &mut [u8]) -> Result<usize, TapeRefusal>
     ensures { TableWrote (record { lines = lines.now }) buf.old result buf.new }
 {
-    tape::write_copy(LineCopy::copied(lines), buf)
+    tape::write_lines(lines, buf)
 }
 
 // ---- what is claimed

@@ -4,7 +4,6 @@ pub mod Tables
 pub mod Tapes
 pub mod Sizes
 pub mod Kept
-pub mod Copying
 pub mod Handing
 pub mod Writing
 pub mod Claims
