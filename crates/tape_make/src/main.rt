@@ -5,7 +5,6 @@ ghost use Rattle.std.specs.Prelude.{◌≡◌, length};
 
 use streams::{STDERR_FILENO, STDIN_FILENO, STDOUT_FILENO};
 use tape::MOST_BYTES;
-use words::Made;
 
 // How many bytes a text has at most. That of any tape is shorter.
 const MOST_TEXT: usize = 2097152;
@@ -17,20 +16,16 @@ fn room() -> [u8; MOST_TEXT + 1]
     [0; MOST_TEXT + 1]
 }
 
-// A tape goes out in one write.
-fn send(tape: &[u8; MOST_BYTES], n: usize) {
-    if !print::send(STDOUT_FILENO, tape, n) {
-        io::write_all(STDERR_FILENO, b"standard output takes no more\n");
-    }
-}
-
-// Makes a text into a tape, or says what is wrong with it.
+// Makes a text into a tape, or says what is wrong with it. A tape goes out in one write.
 fn answer(text: &[u8]) {
     let mut tape = [0u8; MOST_BYTES];
-    let made = words::make(text, &mut tape);
-    match made {
-        Made::Bytes(n) => send(&tape, n),
-        Made::Bad { line, trouble } => words::say_fault(text, line, trouble),
+    match words::make(text, &mut tape) {
+        Ok(n) => {
+            if !io::write_all(STDOUT_FILENO, &tape[..n]) {
+                io::write_all(STDERR_FILENO, b"standard output takes no more\n");
+            }
+        }
+        Err(trouble) => words::say_fault(trouble),
     }
 }
 

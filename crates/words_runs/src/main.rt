@@ -3,14 +3,15 @@
 // 'show:' and a tape's bytes: its text. A line of a text or a byte that starts with '255*' stands there 255 times.
 #![tactic(auto)]
 
-ghost use Rattle.std.specs.Prelude.{◌≤◌};
-
+use print::Page;
+use script::Room;
+use std::fmt::Write;
 use streams::{STDIN_FILENO, STDOUT_FILENO};
 use tape::MOST_BYTES;
-use words::{Cursor, Made, Trouble};
+use words::Shown;
 
-// How many bytes a text of a run has at most.
-const ROOM: usize = 524288;
+// A text of a run. What is longer is cut off.
+type Text = Room<524288>;
 
 // How many bytes of a tape are printed at most.
 const MOST_BYTES_SHOWN: usize = 40;
@@ -21,311 +22,123 @@ fn say(text: &[u8]) {
 
 // ---- texts and tapes of a line
 
-// Puts a byte at a place, as far as there is room, and gives the place behind it.
-fn put(b: u8, room: &mut [u8; ROOM], at: usize) -> usize
-    requires { at ≤ 524288 }
-    ensures { result ≤ 524288 }
-{
-    if at < ROOM {
-        room[at] = b;
-        return at + 1;
-    }
-    at
-}
-
 // What a sign of a text stands for.
-fn meant(b: u8) -> u8 {
-    match b {
+fn meant(sign: u8) -> u8 {
+    match sign {
+        b'/' => b'\n',
         b'\\' => b'\r',
         b'~' => b'\t',
-        _ => b,
+        _ => sign,
     }
 }
 
-fn put_signs(part: &[u8], room: &mut [u8; ROOM], at: usize) -> usize
-    requires { at ≤ 524288 }
-    ensures { result ≤ 524288 }
-{
-    let mut n = at;
-    let mut i = 0;
-    while i < part.len() {
-        n = put(meant(part[i]), room, n);
-        i += 1;
+// How often a line of a text stands there, and the line.
+fn times(line: &[u8]) -> (u64, &[u8]) {
+    match line.iter().position(|b| *b == b'*') {
+        Some(star) => (script::number(line).0, &line[star + 1..]),
+        None => (1, line),
     }
-    n
 }
 
-// A line of a text, with its end where something stands behind it.
-fn put_line(part: &[u8], ends: bool, room: &mut [u8; ROOM], at: usize) -> usize
-    requires { at ≤ 524288 }
-    ensures { result ≤ 524288 }
-{
-    let n = put_signs(part, room, at);
-    if ends {
-        return put(b'\n', room, n);
+// The text that stands in a line.
+fn expanded(signs: &[u8]) -> Text {
+    let mut text = Text::new();
+    for line in signs.split_inclusive(|b| *b == b'/') {
+        let (times, line) = times(line);
+        for _ in 0..times {
+            for sign in line {
+                text.push(meant(*sign));
+            }
+        }
     }
-    n
+    text
 }
 
-fn put_times(part: &[u8], times: u64, ends: bool, room: &mut [u8; ROOM], at: usize) -> usize
-    requires { at ≤ 524288 }
-    ensures { result ≤ 524288 }
-{
-    let mut n = at;
-    let mut i: u64 = 0;
-    while i < times {
-        n = put_line(part, ends, room, n);
-        i += 1;
-    }
-    n
-}
-
-// Puts a line as often as it says.
-fn put_all(part: &[u8], ends: bool, room: &mut [u8; ROOM], at: usize) -> usize
-    requires { at ≤ 524288 }
-    ensures { result ≤ 524288 }
-{
-    let star = script::find(part, 0, b'*');
-    if star < part.len() {
-        let times = script::number(part, 0);
-        let from = star + 1;
-        return put_times(&part[from..], times.value, ends, room, at);
-    }
-    put_line(part, ends, room, at)
-}
-
-// Puts the text that stands in a line.
-fn expand(line: &[u8], room: &mut [u8; ROOM]) -> usize
-    ensures { result ≤ 524288 }
-{
-    let mut n = 0;
-    let mut i = 0;
-    while i < line.len() {
-        let end = script::find(line, i, b'/');
-        let ends = end < line.len();
-        n = put_all(&line[i..end], ends, room, n);
-        i = end + 1;
-    }
-    n
+// The text of a tape.
+fn text_of(tape: &[u8]) -> Text {
+    let mut text = Text::new();
+    let shown = Shown(tape);
+    let _ = write!(text, "{shown}");
+    text
 }
 
 // ---- answers
 
-fn refused(text: &[u8], line: usize, trouble: Trouble) {
-    let mut out = [0u8; print::ROOM];
-    let n = words::sentence(text, line, trouble, &mut out);
-    show::send(&mut out, n);
-}
-
-// A byte in hexadecimal, with a space in front.
-fn byte(b: u8) {
-    let high = b / 16;
-    let low = b % 16;
-    say(&[b' ', b'0' + high + high / 10 * 7, b'0' + low + low / 10 * 7]);
-}
-
-// The first bytes of a tape.
-fn bytes(tape: &[u8]) {
-    let mut i = 0;
-    while i < tape.len() {
-        if i == MOST_BYTES_SHOWN {
-            say(b" ..");
-            return;
-        }
-        byte(tape[i]);
-        i += 1;
-    }
-}
-
-// Whether so many first bytes are all of a tape.
-fn is_tape(first: &[u8; MOST_BYTES], n: usize, tape: &[u8]) -> bool {
-    if n != tape.len() {
-        return false;
-    }
-    let mut i = 0;
-    while i < n {
-        if MOST_BYTES <= i {
-            return false;
-        }
-        if first[i] != tape[i] {
-            return false;
-        }
-        i += 1;
-    }
-    true
-}
-
 // Whether a text makes a tape.
 fn makes(text: &[u8], tape: &[u8]) -> bool {
     let mut again = [0u8; MOST_BYTES];
-    let made = words::make(text, &mut again);
-    match made {
-        Made::Bytes(n) => is_tape(&again, n, tape),
-        Made::Bad {
-            line: _,
-            trouble: _,
-        } => false,
+    match words::make(text, &mut again) {
+        Ok(n) => &again[..n] == tape,
+        Err(_) => false,
     }
 }
 
-// Puts the first bytes of a buffer.
-fn copy(page: &[u8; print::ROOM], count: usize, room: &mut [u8; ROOM], at: usize) -> usize
-    requires { at ≤ 524288 }
-    ensures { result ≤ 524288 }
-{
-    let mut n = at;
-    let mut i = 0;
-    while i < count {
-        if print::ROOM <= i {
-            return n;
-        }
-        n = put(page[i], room, n);
-        i += 1;
+// The first bytes of a tape, and whether its own text makes it.
+fn accepted(tape: &[u8]) {
+    let mut page = Page::new();
+    let n = tape.len();
+    let _ = write!(page, "{n} bytes:");
+    for b in tape.iter().take(MOST_BYTES_SHOWN) {
+        let _ = write!(page, " {b:02X}");
     }
-    n
-}
-
-// Puts the text of a tape, buffer by buffer, as far as there is room.
-fn text_of(tape: &[u8], room: &mut [u8; ROOM]) -> usize
-    ensures { result ≤ 524288 }
-{
-    let mut page = [0u8; print::ROOM];
-    let mut now = Cursor::Head;
-    let mut n = 0;
-    let mut i: usize = 0;
-    while i < 10 {
-        let shown = words::fill(tape, now, &mut page);
-        n = copy(&page, shown.count, room, n);
-        now = shown.next;
-        i += 1;
+    if MOST_BYTES_SHOWN < n {
+        page.words(b" ..");
     }
-    n
-}
-
-// Whether the text of a tape, which stands in a room, makes it.
-fn made_again(tape: &[u8], room: &[u8; ROOM], n: usize) -> bool
-    requires { n ≤ 524288 }
-{
-    let all = &room[..];
-    makes(&all[0..n], tape)
-}
-
-fn is_same(tape: &[u8]) -> bool {
-    let mut room = [0u8; ROOM];
-    let n = text_of(tape, &mut room);
-    made_again(tape, &room, n)
-}
-
-// The bytes that were made.
-fn accepted(first: &[u8; MOST_BYTES], n: usize)
-    requires { n ≤ 65536 }
-{
-    let all = &first[..];
-    let tape = &all[0..n];
-    io::print_decimal(STDOUT_FILENO, n as u64);
-    say(b" bytes:");
-    bytes(tape);
-    if is_same(tape) {
-        say(b"; same\n");
-        return;
-    }
-    say(b"; differs\n");
+    let text = text_of(tape);
+    page.words(if makes(text.as_slice(), tape) {
+        b"; same"
+    } else {
+        b"; differs"
+    });
+    show::send(&mut page);
 }
 
 fn make(text: &[u8]) {
     let mut tape = [0u8; MOST_BYTES];
-    let made = words::make(text, &mut tape);
-    match made {
-        Made::Bytes(n) => accepted(&tape, n),
-        Made::Bad { line, trouble } => refused(text, line, trouble),
+    match words::make(text, &mut tape) {
+        Ok(n) => accepted(&tape[..n]),
+        Err(trouble) => {
+            let mut page = Page::new();
+            let _ = write!(page, "{trouble}");
+            show::send(&mut page);
+        }
     }
 }
 
-// A text as it stands in a line: with / for a line's end.
-fn in_line(text: &[u8]) {
-    let mut i = 0;
-    while i < text.len() {
-        let end = script::find(text, i, b'\n');
-        say(&text[i..end]);
-        say(b"/");
-        i = end + 1;
-    }
-}
-
-fn shown(room: &[u8; ROOM], n: usize)
-    requires { n ≤ 524288 }
-{
-    let all = &room[..];
-    in_line(&all[0..n]);
-    say(b"\n");
-}
-
+// The text of a tape as it stands in a line: with / for a line's end.
 fn show_tape(tape: &[u8]) {
-    let mut room = [0u8; ROOM];
-    let n = text_of(tape, &mut room);
-    shown(&room, n);
+    let text = text_of(tape);
+    for line in script::split(text.as_slice(), b'\n') {
+        say(line);
+        say(b"/");
+    }
+    say(b"\n");
 }
 
 // ---- lines
 
-// A text that stands in a room.
-fn make_text(room: &[u8; ROOM], n: usize)
-    requires { n ≤ 524288 }
-{
-    let all = &room[..];
-    make(&all[0..n]);
-}
-
-fn asked_text(line: &[u8]) {
-    let mut room = [0u8; ROOM];
-    let n = expand(line, &mut room);
-    make_text(&room, n);
-}
-
-// A tape that stands in a room.
-fn show_bytes(room: &[u8; script::ROOM], n: usize)
-    requires { n ≤ 65537 }
-{
-    let all = &room[..];
-    show_tape(&all[0..n]);
-}
-
-fn asked_tape(line: &[u8]) {
-    let mut room = [0u8; script::ROOM];
-    let n = script::bytes_of(line, 0, line.len(), &mut room, 0);
-    show_bytes(&room, n);
-}
-
 // A line of standard input. One that begins with a small letter is asked, from behind its first five bytes on.
-fn line_of(line: &[u8]) {
+fn answer(line: &[u8]) {
     say(line);
-    let letter = script::byte_at(line, 0);
-    if b'a' <= letter {
-        if 5 <= line.len() {
+    match line {
+        [b'm', _, _, _, _, signs @ ..] => {
             say(b" -> ");
-            let from = 5;
-            if letter == b'm' {
-                asked_text(&line[from..]);
-            } else {
-                asked_tape(&line[from..]);
-            }
-            return;
+            make(expanded(signs).as_slice());
         }
-    }
-    say(b"\n");
-}
-
-fn lines(text: &[u8]) {
-    let mut i = 0;
-    while i < text.len() {
-        let end = script::find(text, i, b'\n');
-        line_of(&text[i..end]);
-        i = end + 1;
+        [b'a'..=u8::MAX, _, _, _, _, bytes @ ..] => {
+            say(b" -> ");
+            let mut tape: Room<{ script::ROOM }> = Room::new();
+            tape.words(bytes, 0, bytes.len());
+            show_tape(tape.as_slice());
+        }
+        _ => say(b"\n"),
     }
 }
 
 fn main() {
     let mut text = io::large_buffer();
     let n = io::read_full(STDIN_FILENO, &mut text);
-    lines(&text[..n]);
+    for line in script::split(&text[..n], b'\n') {
+        answer(line);
+    }
 }
