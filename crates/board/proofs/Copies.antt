@@ -9,7 +9,7 @@ use Rattle.scheduler.specs.State.{checked_for, checked_of}
 use Rattle.scheduler.specs.Claims.{CopyOf}
 use Rattle.scheduler.proofs.Claims.{the_claims}
 
--- no more are read than there are
+-- the check answers for the copy as for the lines
 pub checks_lines : (xs : List Line) → checked_of (as_list places (copy places xs)) ≡ checked_for (record { lines = xs })
 checks_lines xs = (the_claims.answers_every (record { lines = xs }) (as_list places (copy places xs)) copies).gives
   where

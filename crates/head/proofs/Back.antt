@@ -1,14 +1,14 @@
 -- A state can be read back from what C keeps, and an answer from what C is given. Assumes nothing.
 use Prim.Native.Nat.{ℕ, zero, suc}
 use mathlib.Core.Path.{◌≡◌, refl, sym, ap, ◌∙◌}
-use mathlib.Core.Bool.{Bool, true, false}
+use mathlib.Core.Bool.{Bool, true, false, cond}
+use lib.Dec.{eqb}
 use mathlib.Core.List.{List, [], ◌∷◌, map}
 use Rattle.rules.specs.declared.Tick.{Tick}
 use Rattle.rules.specs.declared.Job.{Job}
 use Rattle.rules.specs.declared.Phase.{Phase}
 use Rattle.rules.specs.declared.Phase.TheVariants.{Delayed, Released}
-use Rattle.rules.specs.declared.Choice.{Choice}
-use Rattle.rules.specs.declared.Choice.TheVariants.{Idle, Runs}
+use Rattle.rules.specs.declared.Running.{Running}
 use Rattle.rules.specs.declared.KernelCall.{KernelCall}
 use Rattle.rules.specs.declared.KernelCall.TheVariants.{NoCall, ActivateTask, ChainTask, TerminateTask}
 use Rattle.rules.specs.declared.Named.{Named}
@@ -16,8 +16,11 @@ use Rattle.rules.specs.declared.Named.TheVariants.{NoneNamed, TheLine, BothLines
 use Rattle.rules.specs.declared.Answer.{Answer}
 use Rattle.rules.specs.declared.Verdict.{Verdict}
 use Rattle.rules.specs.declared.Reason.TheVariants.{NonePending, ItRuns, Earlier, ThereFirst}
-use Rattle.rules.specs.declared.Why.{Why}
-use Rattle.rules.specs.declared.Why.TheVariants.{Because, Refused}
+use Rattle.rules.specs.declared.Reason.{Reason}
+use Rattle.rules.specs.declared.CallRefusal.{CallRefusal}
+use Rattle.rules.specs.declared.CallRefusal.TheVariants.{NoJob, NoTask, LimitReached, BadTick, DueBeyond, NoPlace}
+use Rattle.std.specs.Prelude.{Some, None, Result, Ok, Err}
+use Rattle.rules.specs.Answers.{Choice, runs_as, phase_of, call_number}
 use Rattle.rules.specs.Layer.{is_released}
 use Rattle.scheduler.specs.declared.State.{State}
 use Rattle.head.specs.declared.HeadJob.{HeadJob}
@@ -25,15 +28,15 @@ use Rattle.head.specs.declared.HeadState.{HeadState}
 use Rattle.head.specs.declared.HeadAnswer.{HeadAnswer}
 use Rattle.head.specs.declared.HeadVerdict.{HeadVerdict}
 use Rattle.head.specs.declared.HeadWhy.{HeadWhy}
-use Rattle.head.specs.Placed.{placed_job, phase_in, job_in, placed, state_in, runs_in, task_in, due_in, number_of, called_of, answer_for, verdict_on, verdict_for, why_for}
+use Rattle.head.specs.Placed.{placed_job, job_in, placed, state_in, runs_in, task_in, due_in, number_of, called_of, answer_for, verdict_on, verdict_for, why_for}
 
 -- ---- the state
 
-phase_back : (p : Phase) → phase_in (is_released p) ≡ p
+phase_back : (p : Phase) → phase_of (is_released p) ≡ p
 phase_back Delayed = refl
 phase_back Released = refl
 
-released_back : (b : Bool) → is_released (phase_in b) ≡ b
+released_back : (b : Bool) → is_released (phase_of b) ≡ b
 released_back true = refl
 released_back false = refl
 
@@ -56,12 +59,12 @@ placed_back p = λ i. record { table = p.table; last = p.last; jobs = places_bac
 -- ---- an answer
 
 abbrev choice_back : Bool → ℕ → Tick → Choice
-choice_back true n t = Runs n t
-choice_back false n t = Idle
+choice_back true n t = runs_as n t
+choice_back false n t = None
 
 choice_back_lem : (c : Choice) → choice_back (runs_in c) (task_in c) (due_in c) ≡ c
-choice_back_lem Idle = refl
-choice_back_lem (Runs n t) = refl
+choice_back_lem None = refl
+choice_back_lem (Some r) = refl
 
 abbrev call_back : ℕ → ℕ → KernelCall
 call_back zero n = NoCall
@@ -116,22 +119,34 @@ number_same v = go v.lines
 
 -- ---- a question's answer
 
-abbrev reason_back : ℕ → HeadWhy → Why
-reason_back zero w = Refused w.result
-reason_back (suc zero) w = Because NonePending
-reason_back (suc (suc zero)) w = Because ItRuns
-reason_back (suc (suc (suc zero))) w = Because (Earlier w.task w.due)
-reason_back (suc (suc (suc (suc k)))) w = Because (ThereFirst w.task w.due)
+-- a refusal by its number
+abbrev refusal_back : ℕ → CallRefusal
+refusal_back n = cond (eqb n 2) NoJob (cond (eqb n 3) NoTask (cond (eqb n 4) LimitReached (cond (eqb n 8) BadTick (cond (eqb n 9) DueBeyond NoPlace))))
 
-abbrev why_back : HeadWhy → Why
+refusal_back_lem : (k : CallRefusal) → refusal_back (call_number k) ≡ k
+refusal_back_lem NoJob = refl
+refusal_back_lem NoTask = refl
+refusal_back_lem LimitReached = refl
+refusal_back_lem BadTick = refl
+refusal_back_lem DueBeyond = refl
+refusal_back_lem NoPlace = refl
+
+abbrev reason_back : ℕ → HeadWhy → Result Reason CallRefusal
+reason_back zero w = Err (refusal_back w.result)
+reason_back (suc zero) w = Ok NonePending
+reason_back (suc (suc zero)) w = Ok ItRuns
+reason_back (suc (suc (suc zero))) w = Ok (Earlier w.task w.due)
+reason_back (suc (suc (suc (suc k)))) w = Ok (ThereFirst w.task w.due)
+
+abbrev why_back : HeadWhy → Result Reason CallRefusal
 why_back w = reason_back w.reason w
 
-why_back_lem : (w : Why) → why_back (why_for w) ≡ w
-why_back_lem (Refused k) = refl
-why_back_lem (Because NonePending) = refl
-why_back_lem (Because ItRuns) = refl
-why_back_lem (Because (Earlier m t)) = refl
-why_back_lem (Because (ThereFirst m t)) = refl
+why_back_lem : (w : Result Reason CallRefusal) → why_back (why_for w) ≡ w
+why_back_lem (Err k) = ap Err (refusal_back_lem k)
+why_back_lem (Ok NonePending) = refl
+why_back_lem (Ok ItRuns) = refl
+why_back_lem (Ok (Earlier m t)) = refl
+why_back_lem (Ok (ThereFirst m t)) = refl
 
-pub whys_apart : (v w : Why) → why_for v ≡ why_for w → v ≡ w
+pub whys_apart : (v w : Result Reason CallRefusal) → why_for v ≡ why_for w → v ≡ w
 whys_apart v w e = sym (why_back_lem v) ∙ ap why_back e ∙ why_back_lem w

@@ -1,13 +1,15 @@
 -- What the check and the calls give is kept: it is what the scheduler gives for the state that is read back. Assumes nothing.
 use Prim.Native.Nat.{ℕ}
 use mathlib.Core.Path.{◌≡◌, sym, ap, ◌∙◌, subst⁻¹}
-use mathlib.Core.List.{List, foldl}
-use lib.ListN.{length, take}
+use mathlib.Core.List.{List}
 use Rattle.rules.specs.declared.Call.{Call}
 use Rattle.rules.specs.declared.Line.{Line}
-use Rattle.rules.specs.declared.Why.{Why}
+use Rattle.std.specs.Prelude.{Result}
+use Rattle.rules.specs.declared.Reason.{Reason}
+use Rattle.rules.specs.declared.CallRefusal.{CallRefusal}
+use Rattle.rules.specs.Words.{places}
 use Rattle.table.specs.Lines.{TaskTable}
-use Rattle.table.specs.Copy.{lines_read_of, begun_of, pushed_of}
+use Rattle.table.specs.Copy.{as_list, copy}
 use Rattle.scheduler.specs.declared.State.{State}
 use Rattle.scheduler.specs.declared.Checked.{Checked}
 use Rattle.scheduler.specs.declared.Stepped.{Stepped}
@@ -42,11 +44,11 @@ steps p e s n r q g z = (
   subst⁻¹ (λ (x : HeadStepped). HeadHanded x.state) z (kept_placed n.state g.1),
 )
 
-pub asks : (p : HeadState) (k : ℕ) (s : State) (w : Why) (r : HeadWhy) → s ≡ state_in p → w ≡ why_of s k → r ≡ why_for w → r ≡ head_why p k
+pub asks : (p : HeadState) (k : ℕ) (s : State) (w : Result Reason CallRefusal) (r : HeadWhy) → s ≡ state_in p → w ≡ why_of s k → r ≡ why_for w → r ≡ head_why p k
 unfolding head_why
 asks p k s w r q g z = z ∙ ap why_for (g ∙ ap (λ (x : State). why_of x k) q)
 
 -- the check answers for a copy of lent lines as for the lines
-pub checks_lines : (xs : List Line) (r : HeadChecked) → (r ≡ checked_table (foldl pushed_of (begun_of (length xs)) (take (lines_read_of (length xs)) xs))) × HeadHandedOut r → LinesChecked xs r
+pub checks_lines : (xs : List Line) (r : HeadChecked) → (r ≡ checked_table (as_list places (copy places xs))) × HeadHandedOut r → LinesChecked xs r
 unfolding checked_table
 checks_lines xs r g = record { gives = g.0 ∙ ap checked_placed (checks-copy xs); hands_out = g.1 }

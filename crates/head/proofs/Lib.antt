@@ -2,7 +2,6 @@ pub mod Copies
 pub mod Back
 pub mod Behind
 pub mod Handing
-pub mod Structs
 pub mod Calls
 pub mod Claims
 mod Outcomes

@@ -1,10 +1,11 @@
 -- All that is claimed of what C is given beside the promises of its check and calls; proofs/Claims.antt proves it. Assumes nothing.
-use Rattle.std.specs.Prelude.{◌≡◌, List, map}
+use Rattle.std.specs.Prelude.{◌≡◌, List, map, Result}
 use Rattle.rules.specs.declared.Answer.{Answer}
 use Rattle.rules.specs.declared.Call.{Call}
 use Rattle.rules.specs.declared.Line.{Line}
 use Rattle.rules.specs.declared.Verdict.{Verdict}
-use Rattle.rules.specs.declared.Why.{Why}
+use Rattle.rules.specs.declared.Reason.{Reason}
+use Rattle.rules.specs.declared.CallRefusal.{CallRefusal}
 use Rattle.rules.specs.Outcome.{One, OneWith}
 use Rattle.scheduler.specs.declared.State.{State}
 use Rattle.scheduler.specs.Claims.{Goes}
@@ -30,7 +31,7 @@ abbrev pub VerdictsApart : Type 0
 VerdictsApart = (v w : Verdict) → verdict_for v ≡ verdict_for w → v ≡ w
 
 abbrev pub WhysApart : Type 0
-WhysApart = (v w : Why) → why_for v ≡ why_for w → v ≡ w
+WhysApart = (v w : Result Reason CallRefusal) → why_for v ≡ why_for w → v ≡ w
 
 -- ---- one outcome
 

@@ -1,11 +1,7 @@
 -- How a state and an answer are kept for C, in structs without enums. Assumes nothing.
-use Rattle.std.specs.Prelude.{ℕ, Bool, true, false, map}
+use Rattle.std.specs.Prelude.{ℕ, Bool, map, is_some, Some, None, Result, Ok, Err}
 use Rattle.rules.specs.declared.Tick.{Tick}
 use Rattle.rules.specs.declared.Job.{Job}
-use Rattle.rules.specs.declared.Phase.{Phase}
-use Rattle.rules.specs.declared.Phase.TheVariants.{Delayed, Released}
-use Rattle.rules.specs.declared.Choice.{Choice}
-use Rattle.rules.specs.declared.Choice.TheVariants.{Idle, Runs}
 use Rattle.rules.specs.declared.KernelCall.{KernelCall}
 use Rattle.rules.specs.declared.KernelCall.TheVariants.{NoCall, ActivateTask, ChainTask, TerminateTask}
 use Rattle.rules.specs.declared.Named.{Named}
@@ -14,8 +10,8 @@ use Rattle.rules.specs.declared.Answer.{Answer}
 use Rattle.rules.specs.declared.Verdict.{Verdict}
 use Rattle.rules.specs.declared.Reason.{Reason}
 use Rattle.rules.specs.declared.Reason.TheVariants.{NonePending, ItRuns, Earlier, ThereFirst}
-use Rattle.rules.specs.declared.Why.{Why}
-use Rattle.rules.specs.declared.Why.TheVariants.{Because, Refused}
+use Rattle.rules.specs.declared.CallRefusal.{CallRefusal}
+use Rattle.rules.specs.Answers.{Choice, phase_of, call_number}
 use Rattle.rules.specs.Layer.{is_released}
 use Rattle.scheduler.specs.declared.State.{State}
 use Rattle.scheduler.specs.State.{Handed}
@@ -31,12 +27,8 @@ use Rattle.head.specs.declared.HeadWhy.{HeadWhy}
 abbrev pub placed_job : Job → HeadJob
 placed_job j = record { due = j.due; task = j.task; released = is_released j.phase }
 
-abbrev pub phase_in : Bool → Phase
-phase_in true = Released
-phase_in false = Delayed
-
 abbrev pub job_in : HeadJob → Job
-job_in j = record { due = j.due; task = j.task; phase = phase_in j.released }
+job_in j = record { due = j.due; task = j.task; phase = phase_of j.released }
 
 -- a state as C keeps it
 unfoldable pub placed : State → HeadState
@@ -54,16 +46,15 @@ HeadHanded p = Handed (state_in p)
 
 -- whether a job runs, its task, its deadline
 abbrev pub runs_in : Choice → Bool
-runs_in Idle = false
-runs_in (Runs n t) = true
+runs_in c = is_some c
 
 abbrev pub task_in : Choice → ℕ
-task_in Idle = 0
-task_in (Runs n t) = n
+task_in None = 0
+task_in (Some r) = r.task
 
 abbrev pub due_in : Choice → Tick
-due_in Idle = record { 0 = 0 }
-due_in (Runs n t) = t
+due_in None = record { 0 = 0 }
+due_in (Some r) = r.due
 
 -- the kernel call by its number, and the task that it names
 abbrev pub number_of : KernelCall → ℕ
@@ -111,6 +102,6 @@ reason_for (Earlier m t) = record { result = 0; reason = 3; task = m; due = t }
 reason_for (ThereFirst m t) = record { result = 0; reason = 4; task = m; due = t }
 
 -- or the refusal's number
-abbrev pub why_for : Why → HeadWhy
-why_for (Because r) = reason_for r
-why_for (Refused k) = record { result = k; reason = 0; task = 0; due = record { 0 = 0 } }
+abbrev pub why_for : Result Reason CallRefusal → HeadWhy
+why_for (Ok r) = reason_for r
+why_for (Err k) = record { result = call_number k; reason = 0; task = 0; due = record { 0 = 0 } }

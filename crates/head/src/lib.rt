@@ -1,19 +1,21 @@
 // The scheduler of one recorder head, for C: the same calls as the board's, over structs without enums.
 #![tactic(auto)]
 
-ghost use Rattle.std.specs.Prelude.{◌≡◌, map, ◌≤◌, max, drop, replicate};
+ghost use Rattle.std.specs.Prelude.{◌≡◌, map, ◌≤◌, drop, replicate};
 ghost use Rattle.rules.specs.Words.{places};
 ghost use Rattle.rules.specs.declared.Call.TheVariants.{Wait, Activate, Terminate, Chain};
-ghost use Rattle.rules.specs.Layer.{is_released};
 ghost use Rattle.jobs.specs.Listed.{blank_job};
-ghost use Rattle.head.specs.Placed.{phase_in, placed_job, job_in, placed, state_in, HeadHanded, runs_in, task_in, due_in, number_of, called_of, answer_for, verdict_for, reason_for, why_for};
+ghost use Rattle.head.specs.Placed.{placed_job, job_in, placed, state_in, HeadHanded, task_in, due_in, number_of, called_of};
+ghost use Rattle.scheduler.specs.declared.Stepped.{Stepped};
+ghost use Rattle.scheduler.specs.State.{Handed};
 ghost use Rattle.head.specs.Calls.{checked_table, HeadHandedOut, LinesChecked, stepped_for, head_step, Left, head_why};
 ghost use Rattle.head.specs.Claims.{Claims};
 
 use jobs::JobList;
 use monitor::Monitor;
 use rules::{
-    Answer, Choice, Job, KernelCall, Late, Line, Named, PLACES, Phase, Reason, Tick, Verdict, Why,
+    Answer, CallRefusal, Job, KernelCall, Late, Line, Named, PLACES, Phase, Reason, Running, Tick,
+    Verdict,
 };
 use scheduler::{State, Stepped};
 use table::TaskTable;
@@ -88,36 +90,19 @@ struct HeadStepped {
 
 // ---- how a state is kept for C
 
-// Whether the kernel has a job.
-fn released_in(phase: Phase) -> bool
-    ensures { result ≡ is_released phase }
-{
-    match phase {
-        Phase::Delayed => false,
-        Phase::Released => true,
-    }
-}
-
-// The phase of a job that C keeps.
-fn phase_in(released: bool) -> Phase
-    ensures { result ≡ phase_in released }
-{
-    if released {
-        return Phase::Released;
-    }
-    Phase::Delayed
-}
-
 // A job as C keeps it.
-fn placed_job(job: Job) -> HeadJob
-    ensures { result ≡ placed_job job }
-{
-    let due = job.due;
-    let phase = job.phase;
-    HeadJob {
-        due,
-        task: job.task,
-        released: released_in(phase),
+impl From<Job> for HeadJob {
+    ghost use Rattle.std.specs.Prelude.{◌≡◌};
+    ghost use Rattle.head.specs.Placed.{placed_job};
+
+    ghost from_gives = { λ job kept. kept ≡ placed_job job };
+
+    fn from(job: Job) -> HeadJob {
+        HeadJob {
+            due: job.due,
+            task: job.task,
+            released: job.phase.is_released(),
+        }
     }
 }
 
@@ -127,11 +112,8 @@ fn placed_jobs(there: [HeadJob; PLACES], jobs: [Job; PLACES], n: usize) -> [Head
     ensures { result ≡ map placed_job jobs }
 {
     let mut out = there;
-    let mut i = 0;
-    while i < n {
-        let job = jobs[i];
-        out[i] = placed_job(job);
-        i += 1;
+    for i in 0..n {
+        out[i] = HeadJob::from(jobs[i]);
     }
     out
 }
@@ -146,16 +128,12 @@ fn jobs_in(jobs: [HeadJob; PLACES], n: usize) -> [Job; PLACES]
         task: 0,
         phase: Phase::Delayed,
     }; PLACES];
-    let mut i = 0;
-    while i < n {
-        let job = jobs[i];
-        let due = job.due;
+    for i in 0..n {
         out[i] = Job {
-            due,
-            task: job.task,
-            phase: phase_in(jobs[i].released),
+            due: jobs[i].due,
+            task: jobs[i].task,
+            phase: Phase::from(jobs[i].released),
         };
-        i += 1;
     }
     out
 }
@@ -165,16 +143,12 @@ fn placed_with(s: State, jobs: [HeadJob; PLACES]) -> HeadState
     requires { jobs ≡ map placed_job s.list.jobs }
     ensures { result ≡ placed s }
 {
-    let table = s.table;
-    let last = s.last;
-    let list = s.list;
-    let monitor = s.monitor;
     HeadState {
-        table,
-        last,
+        table: s.table,
+        last: s.last,
         jobs,
-        count: list.count,
-        monitor,
+        count: s.list.count,
+        monitor: s.monitor,
     }
 }
 
@@ -182,14 +156,12 @@ fn placed_with(s: State, jobs: [HeadJob; PLACES]) -> HeadState
 fn placed(s: State) -> HeadState
     ensures { result ≡ placed s }
 {
-    let list = s.list;
-    let jobs = list.jobs;
     let none = [HeadJob {
         due: Tick(0),
         task: 0,
         released: false,
     }; PLACES];
-    placed_with(s, placed_jobs(none, jobs, PLACES))
+    placed_with(s, placed_jobs(none, s.list.jobs, PLACES))
 }
 
 // The state that C keeps, by its jobs.
@@ -197,61 +169,53 @@ fn state_in(p: HeadState, jobs: [Job; PLACES]) -> State
     requires { jobs ≡ map job_in p.jobs }
     ensures { result ≡ state_in p }
 {
-    let table = p.table;
-    let last = p.last;
-    let list = JobList {
-        jobs,
-        count: p.count,
-    };
-    let monitor = p.monitor;
     State {
-        table,
-        last,
-        list,
-        monitor,
+        table: p.table,
+        last: p.last,
+        list: JobList {
+            jobs,
+            count: p.count,
+        },
+        monitor: p.monitor,
     }
 }
 
-// The greater of two counts.
-fn greater(m: usize, n: usize) -> usize
-    ensures { result ≡ max m n }
-{
-    if m < n {
-        return n;
+// ---- how an answer is given to C: by numbers, as C reads them (c/head.h)
+
+// What a call returns.
+impl From<Answer> for HeadAnswer {
+    ghost use Rattle.std.specs.Prelude.{◌≡◌};
+    ghost use Rattle.head.specs.Placed.{answer_for};
+
+    ghost from_gives = { λ answer told. told ≡ answer_for answer };
+
+    fn from(answer: Answer) -> HeadAnswer {
+        let running = answer.running;
+        let call = answer.call;
+        HeadAnswer {
+            result: answer.result,
+            runs: running.is_some(),
+            task: task_in(running),
+            due: due_in(running),
+            call: number_of(call),
+            called: called_of(call),
+            late: answer.late,
+        }
     }
-    m
 }
 
-// ---- how an answer is given to C
-
-// Whether a job runs.
-fn runs_in(choice: Choice) -> bool
-    ensures { result ≡ runs_in choice }
+// The task of what runs.
+fn task_in(running: Option<Running>) -> u8
+    ensures { result ≡ task_in running }
 {
-    match choice {
-        Choice::Idle => false,
-        Choice::Runs(task, due) => true,
-    }
-}
-
-// Its task.
-fn task_in(choice: Choice) -> u8
-    ensures { result ≡ task_in choice }
-{
-    match choice {
-        Choice::Idle => 0,
-        Choice::Runs(task, due) => task,
-    }
+    running.map_or(0, |job| job.task)
 }
 
 // Its deadline.
-fn due_in(choice: Choice) -> Tick
-    ensures { result ≡ due_in choice }
+fn due_in(running: Option<Running>) -> Tick
+    ensures { result ≡ due_in running }
 {
-    match choice {
-        Choice::Idle => Tick(0),
-        Choice::Runs(task, due) => due,
-    }
+    running.map_or(Tick(0), |job| job.due)
 }
 
 // The kernel call, by its number.
@@ -271,102 +235,83 @@ fn called_of(call: KernelCall) -> u8
     ensures { result ≡ called_of call }
 {
     match call {
-        KernelCall::NoCall => 0,
-        KernelCall::ActivateTask(task) => task,
-        KernelCall::ChainTask(task) => task,
-        KernelCall::TerminateTask => 0,
-    }
-}
-
-// What a call returns.
-fn answer_for(a: Answer) -> HeadAnswer
-    ensures { result ≡ answer_for a }
-{
-    let running = a.running;
-    let call = a.call;
-    let late = a.late;
-    HeadAnswer {
-        result: a.result,
-        runs: runs_in(running),
-        task: task_in(running),
-        due: due_in(running),
-        call: number_of(call),
-        called: called_of(call),
-        late,
+        KernelCall::ActivateTask(task) | KernelCall::ChainTask(task) => task,
+        KernelCall::NoCall | KernelCall::TerminateTask => 0,
     }
 }
 
 // What the check answers.
-fn verdict_for(v: Verdict) -> HeadVerdict
-    ensures { result ≡ verdict_for v }
-{
-    let lines = v.lines;
-    match lines {
-        Named::NoneNamed => HeadVerdict {
-            number: v.number,
-            named: 0,
-            first: 0,
-            second: 0,
-        },
-        Named::TheLine(i) => HeadVerdict {
-            number: v.number,
-            named: 1,
-            first: i,
-            second: 0,
-        },
-        Named::BothLines(i, j) => HeadVerdict {
-            number: v.number,
-            named: 2,
-            first: i,
-            second: j,
-        },
-    }
-}
+impl From<Verdict> for HeadVerdict {
+    ghost use Rattle.std.specs.Prelude.{◌≡◌};
+    ghost use Rattle.head.specs.Placed.{verdict_for};
 
-// Why a job does or does not run.
-fn reason_for(reason: Reason) -> HeadWhy
-    ensures { result ≡ reason_for reason }
-{
-    match reason {
-        Reason::NonePending => HeadWhy {
-            result: 0,
-            reason: 1,
-            task: 0,
-            due: Tick(0),
-        },
-        Reason::ItRuns => HeadWhy {
-            result: 0,
-            reason: 2,
-            task: 0,
-            due: Tick(0),
-        },
-        Reason::Earlier(task, due) => HeadWhy {
-            result: 0,
-            reason: 3,
-            task,
-            due,
-        },
-        Reason::ThereFirst(task, due) => HeadWhy {
-            result: 0,
-            reason: 4,
-            task,
-            due,
-        },
+    ghost from_gives = { λ verdict told. told ≡ verdict_for verdict };
+
+    fn from(verdict: Verdict) -> HeadVerdict {
+        let number = verdict.number;
+        match verdict.lines {
+            Named::NoneNamed => HeadVerdict {
+                number,
+                named: 0,
+                first: 0,
+                second: 0,
+            },
+            Named::TheLine(i) => HeadVerdict {
+                number,
+                named: 1,
+                first: i,
+                second: 0,
+            },
+            Named::BothLines(i, j) => HeadVerdict {
+                number,
+                named: 2,
+                first: i,
+                second: j,
+            },
+        }
     }
 }
 
 // What the question is answered with.
-fn why_for(why: Why) -> HeadWhy
-    ensures { result ≡ why_for why }
-{
-    match why {
-        Why::Because(reason) => reason_for(reason),
-        Why::Refused(number) => HeadWhy {
-            result: number,
-            reason: 0,
-            task: 0,
-            due: Tick(0),
-        },
+impl From<Result<Reason, CallRefusal>> for HeadWhy {
+    ghost use Rattle.std.specs.Prelude.{◌≡◌};
+    ghost use Rattle.head.specs.Placed.{why_for};
+
+    ghost from_gives = { λ why told. told ≡ why_for why };
+
+    fn from(why: Result<Reason, CallRefusal>) -> HeadWhy {
+        match why {
+            Ok(Reason::NonePending) => HeadWhy {
+                result: 0,
+                reason: 1,
+                task: 0,
+                due: Tick(0),
+            },
+            Ok(Reason::ItRuns) => HeadWhy {
+                result: 0,
+                reason: 2,
+                task: 0,
+                due: Tick(0),
+            },
+            Ok(Reason::Earlier(task, due)) => HeadWhy {
+                result: 0,
+                reason: 3,
+                task,
+                due,
+            },
+            Ok(Reason::ThereFirst(task, due)) => HeadWhy {
+                result: 0,
+                reason: 4,
+                task,
+                due,
+            },
+            Err(refusal) => HeadWhy {
+                result: u8::from(refusal),
+                reason: 0,
+                task: 0,
+                due: Tick(0),
+            },
+        }
     }
 }
 
@@ -377,11 +322,9 @@ fn checked_table(t: TaskTable) -> HeadChecked
     ensures { (result ≡ checked_table t) × HeadHandedOut result }
 {
     let checked = scheduler::check(t);
-    let state = checked.state;
-    let verdict = checked.verdict;
     HeadChecked {
-        state: placed(state),
-        verdict: verdict_for(verdict),
+        state: placed(checked.state),
+        verdict: HeadVerdict::from(checked.verdict),
     }
 }
 
@@ -392,69 +335,31 @@ fn stepped_for(next: Stepped, jobs: [HeadJob; PLACES]) -> HeadStepped
     requires { jobs ≡ map placed_job next.state.list.jobs }
     ensures { result ≡ stepped_for next }
 {
-    let state = next.state;
-    let answer = next.answer;
     HeadStepped {
-        state: placed_with(state, jobs),
-        answer: answer_for(answer),
+        state: placed_with(next.state, jobs),
+        answer: HeadAnswer::from(next.answer),
     }
 }
 
-// Tick, by value. It leaves the jobs as they are.
+// Tick, by value. It leaves the jobs as they are, so none is taken over behind it.
 fn step_tick(p: HeadState, at: Tick) -> HeadStepped
     requires { HeadHanded p }
     ensures { (result ≡ head_step p (Wait at)) × HeadHanded result.state }
 {
-    let jobs = p.jobs;
-    let n = p.count;
-    let s = state_in(p, jobs_in(jobs, n));
+    let s = state_in(p, jobs_in(p.jobs, p.count));
     let next = scheduler::tick(s, at);
-    stepped_for(next, jobs)
+    stepped_for(next, p.jobs)
 }
 
-// Activate, by value.
-fn step_activate(p: HeadState, at: Tick, task: u8) -> HeadStepped
-    requires { HeadHanded p }
-    ensures { (result ≡ head_step p (Activate at task)) × HeadHanded result.state }
+// Any other call, by value: the state that C keeps is taken over, the call is made on it, and what it leaves is taken over again.
+fn step<F: FnOnce(State) -> Stepped>(p: HeadState, call: F) -> HeadStepped
+    requires { HeadHanded p × F.pre call (state_in p) × ((next : Stepped) → F.post call (state_in p) next → Handed next.state) }
+    ensures { (next : Stepped) × F.post call (state_in p) next × (result ≡ stepped_for next) }
 {
-    let jobs = p.jobs;
-    let n = p.count;
-    let s = state_in(p, jobs_in(jobs, n));
-    let next = scheduler::activate(s, at, task);
-    let state = next.state;
-    let list = state.list;
-    let after = list.jobs;
-    stepped_for(next, placed_jobs(jobs, after, greater(n, list.count)))
-}
-
-// Terminate, by value.
-fn step_terminate(p: HeadState, at: Tick) -> HeadStepped
-    requires { HeadHanded p }
-    ensures { (result ≡ head_step p (Terminate at)) × HeadHanded result.state }
-{
-    let jobs = p.jobs;
-    let n = p.count;
-    let s = state_in(p, jobs_in(jobs, n));
-    let next = scheduler::terminate(s, at);
-    let state = next.state;
-    let list = state.list;
-    let after = list.jobs;
-    stepped_for(next, placed_jobs(jobs, after, greater(n, list.count)))
-}
-
-// Chain, by value.
-fn step_chain(p: HeadState, at: Tick, task: u8) -> HeadStepped
-    requires { HeadHanded p }
-    ensures { (result ≡ head_step p (Chain at task)) × HeadHanded result.state }
-{
-    let jobs = p.jobs;
-    let n = p.count;
-    let s = state_in(p, jobs_in(jobs, n));
-    let next = scheduler::chain(s, at, task);
-    let state = next.state;
-    let list = state.list;
-    let after = list.jobs;
-    stepped_for(next, placed_jobs(jobs, after, greater(n, list.count)))
+    let s = state_in(p, jobs_in(p.jobs, p.count));
+    let next = call(s);
+    let n = p.count.max(next.state.list.count);
+    stepped_for(next, placed_jobs(p.jobs, next.state.list.jobs, n))
 }
 
 // ---- the question by value
@@ -464,10 +369,8 @@ fn ask_why(p: HeadState, task: u8) -> HeadWhy
     requires { HeadHanded p }
     ensures { result ≡ head_why p task }
 {
-    let jobs = p.jobs;
-    let n = p.count;
-    let s = state_in(p, jobs_in(jobs, n));
-    why_for(scheduler::why(s, task))
+    let s = state_in(p, jobs_in(p.jobs, p.count));
+    HeadWhy::from(scheduler::why(s, task))
 }
 
 // ---- the check and the calls for C: lines as they are, the state of a recorder head updated where it stands
@@ -477,14 +380,7 @@ fn ask_why(p: HeadState, task: u8) -> HeadWhy
 pub extern "C" fn head_check(lines: &[Line]) -> HeadChecked
     ensures { LinesChecked lines.now result }
 {
-    let mut copy = table::begun(lines.len());
-    let n = table::lines_read(lines.len());
-    let mut i = 0;
-    while i < n {
-        copy = table::pushed(copy, lines[i]);
-        i += 1;
-    }
-    checked_table(copy)
+    checked_table(TaskTable::copied(lines))
 }
 
 // Tick: time moves; no kernel call.
@@ -504,7 +400,7 @@ pub extern "C" fn head_activate(s: &mut HeadState, at: Tick, task: u8) -> HeadAn
     requires { HeadHanded s.old }
     ensures { Left s.old (Activate at task) result s.new }
 {
-    let next = step_activate(*s, at, task);
+    let next = step(*s, |state| scheduler::activate(state, at, task));
     *s = next.state;
     next.answer
 }
@@ -515,7 +411,7 @@ pub extern "C" fn head_terminate(s: &mut HeadState, at: Tick) -> HeadAnswer
     requires { HeadHanded s.old }
     ensures { Left s.old (Terminate at) result s.new }
 {
-    let next = step_terminate(*s, at);
+    let next = step(*s, |state| scheduler::terminate(state, at));
     *s = next.state;
     next.answer
 }
@@ -526,7 +422,7 @@ pub extern "C" fn head_chain(s: &mut HeadState, at: Tick, task: u8) -> HeadAnswe
     requires { HeadHanded s.old }
     ensures { Left s.old (Chain at task) result s.new }
 {
-    let next = step_chain(*s, at, task);
+    let next = step(*s, |state| scheduler::chain(state, at, task));
     *s = next.state;
     next.answer
 }

@@ -13,4 +13,4 @@ why-requires c =
 pub returns : goal.returns
 returns c =
     let a = c.args in
-    asks a.p a.task _ _ _ c.state_in-s.ensures c.why.ensures c.why_for.ensures
+    asks a.p a.task _ _ _ c.state_in-s.ensures c.why.ensures c.from.ensures

@@ -4,4 +4,4 @@ use Rattle.head.proofs.checked_table.Goals as goal
 
 pub returns : goal.returns
 returns c =
-    checks c.args.t c.check-checked.result _ c.check-checked.ensures (rw (c.placed.ensures, c.verdict_for.ensures))
+    checks c.args.t c.check-checked.result _ c.check-checked.ensures (rw (c.placed.ensures, c.from.ensures))

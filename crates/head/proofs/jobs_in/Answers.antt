@@ -22,7 +22,7 @@ loop-i-preserved c =
     let l = c.loop-i in
     let m : l.i < length c.args.jobs = omega (arith, full (goal.at.loop-i-preserved c).Start, c.requires.0) in (
       simp length-set l.invariant.0,
-      rw c.phase_in.ensures (copied_turn job_in c.args.jobs _ l.out l.i l.invariant _ m),
+      rw c.from.ensures (copied_turn job_in c.args.jobs _ l.out l.i l.invariant _ m),
       behind_turn job_in c.args.jobs _ l.out l.i l.invariant _,
     )
 

@@ -1,11 +1,7 @@
 -- `head::jobs_in` meets its contract. Assumes nothing.
-use Prim.Native.Nat.{◌-◌}
 use Rattle.head.specs.Placed.{job_in}
 use Rattle.head.proofs.Copies.{Copied}
 use Rattle.head.proofs.jobs_in.Given as goal
 
 abbrev pub invariant-loop-i : goal.invariant-loop-i
 invariant-loop-i l = Copied job_in l.jobs l.initial.out l.i l.out
-
-abbrev pub decreases-loop-i : goal.decreases-loop-i
-decreases-loop-i l = l.n - l.i

@@ -25,7 +25,7 @@ loop-i-preserved c =
     let l = c.loop-i in
     let m : l.i < length c.args.jobs = omega (arith, full (goal.at.loop-i-preserved c).Start, c.requires.0) in (
       simp length-set l.invariant.0,
-      rw c.placed_job.ensures (copied_turn placed_job c.args.jobs _ l.out l.i l.invariant _ m),
+      rw c.from.ensures (copied_turn placed_job c.args.jobs _ l.out l.i l.invariant _ m),
       behind_turn placed_job c.args.jobs _ l.out l.i l.invariant _,
     )
 

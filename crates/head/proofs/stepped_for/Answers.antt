@@ -2,4 +2,4 @@
 use Rattle.head.proofs.stepped_for.Goals as goal
 
 pub returns : goal.returns
-returns c = rw (c.placed_with.ensures, c.answer_for.ensures)
+returns c = rw (c.placed_with.ensures, c.from.ensures)

@@ -1,6 +1,6 @@
--- `head::verdict_for` meets its contract. Assumes nothing.
+-- What the check answers is told to C by its numbers. Assumes nothing.
 use Rattle.head.specs.Placed.{verdict_for}
-use Rattle.head.proofs.verdict_for.Goals as goal
+use Rattle.head.proofs.HeadVerdictFromVerdict.from.Goals as goal
 
 pub returns-in-NoneNamed : goal.returns-in-NoneNamed
 unfolding verdict_for
