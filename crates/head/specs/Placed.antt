@@ -32,11 +32,11 @@ job_in j = record { due = j.due; task = j.task; phase = phase_of j.released }
 
 -- a state as C keeps it
 unfoldable pub placed : State → HeadState
-placed s = record { table = s.table; last = s.last; jobs = map placed_job s.list.jobs; count = s.list.count; monitor = s.monitor }
+placed s = record { table = record { lines = s.table.lines; count = s.table.count }; last = s.last; jobs = map placed_job s.list.jobs; count = s.list.count; monitor = s.monitor }
 
 -- and read back
 unfoldable pub state_in : HeadState → State
-state_in p = record { table = p.table; last = p.last; list = record { jobs = map job_in p.jobs; count = p.count }; monitor = p.monitor }
+state_in p = record { table = record { lines = p.table.lines; count = p.table.count }; last = p.last; list = record { jobs = map job_in p.jobs; count = p.count }; monitor = p.monitor }
 
 -- the state was handed out by the check and has since been changed by nothing but calls
 abbrev pub HeadHanded : HeadState → Type 0

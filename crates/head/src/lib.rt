@@ -29,11 +29,19 @@ pub struct HeadJob {
     pub released: bool,
 }
 
+// The lines of the tasks, and how many there are: a struct of its own, since C takes none with a const parameter.
+#[repr(C)]
+#[derive(Clone, Copy)]
+pub struct HeadTable {
+    pub lines: [Line; PLACES],
+    pub count: usize,
+}
+
 // The scheduler state of a recorder head.
 #[repr(C)]
 #[derive(Clone, Copy)]
 pub struct HeadState {
-    pub table: TaskTable,
+    pub table: HeadTable,
     pub last: Tick,
     pub jobs: [HeadJob; PLACES],
     pub count: usize,
@@ -143,8 +151,12 @@ fn placed_with(s: State, jobs: [HeadJob; PLACES]) -> HeadState
     requires { jobs ≡ map placed_job s.list.jobs }
     ensures { result ≡ placed s }
 {
+    let lines = s.table.lines;
     HeadState {
-        table: s.table,
+        table: HeadTable {
+            lines,
+            count: s.table.count,
+        },
         last: s.last,
         jobs,
         count: s.list.count,
@@ -169,8 +181,12 @@ fn state_in(p: HeadState, jobs: [Job; PLACES]) -> State
     requires { jobs ≡ map job_in p.jobs }
     ensures { result ≡ state_in p }
 {
+    let lines = p.table.lines;
     State {
-        table: p.table,
+        table: TaskTable {
+            lines,
+            count: p.table.count,
+        },
         last: p.last,
         list: JobList {
             jobs,
