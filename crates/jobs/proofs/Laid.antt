@@ -1,10 +1,10 @@
 -- A list laid out in an array: what `view` and `pack` make of each other. Assumes nothing.
 use Prim.Native.Nat.{ℕ, ◌+◌, ◌-◌, ◌≤◌, ◌<◌}
 use mathlib.Core.Path.{◌≡◌, refl, sym, ap, ◌∙◌}
-use mathlib.Core.List.{List, [], ◌∷◌}
+use mathlib.Core.List.{List, ◌∷◌}
 use native.Mathlib.Numerals.{add-one}
 use native.Mathlib.Omega.{arith}
-use lib.ListN.{length, drop, get_or, length-take, length-append, length-replicate, replicate, drop_of_length-le}
+use lib.ListN.{length, drop, get_or, length-take, length-append, length-replicate, replicate}
 use lib.Seq.{drop-cons, get_or-take, length-take-le, take-append_seam}
 use Rattle.rules.specs.Words.{places}
 use Rattle.rules.specs.declared.Job.{Job}
@@ -48,9 +48,3 @@ view_step l i s h =
     let m : l.count ≤ length l.jobs = omega (arith, shaped_length l s, s.small) in
     let k : i < length (view l) = rw (length-take-le l.count l.jobs m) h in
     drop-cons (view l) i blank_job k ∙ rw (add-one, get_or-take l.count l.jobs i blank_job h)
-
--- nothing is pending from the count on
-pub view_end : (l : JobList) (i : ℕ) → Shaped l → l.count ≤ i → drop i (view l) ≡ []
-view_end l i s h =
-    let k : length (view l) ≤ i = omega (arith, view_length l s) in
-    drop_of_length-le (view l) k

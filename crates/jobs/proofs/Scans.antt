@@ -1,15 +1,15 @@
 -- Loops that read a list from the front: a turn, and the end. Assumes nothing.
-use Prim.Native.Nat.{ℕ, zero, suc, ◌+◌, ◌≤◌, ◌<◌}
+use Prim.Native.Nat.{ℕ, zero, suc, ◌+◌, ◌<◌}
 use mathlib.Core.Path.{◌≡◌, refl, sym}
 use mathlib.Core.Bool.{Bool, true, false, cond}
 use mathlib.Core.List.{List, [], ◌∷◌}
 use native.Mathlib.Omega.{arith}
 use lib.Dec.{eqb, eqb-suc-zero}
-use lib.ListN.{length, get_or, take, drop}
+use lib.ListN.{length, get_or, take}
 use Rattle.rules.specs.declared.Job.{Job}
 use Rattle.rules.specs.Words.{only}
 use Rattle.jobs.specs.declared.JobList.{JobList}
-use Rattle.std.specs.Prelude.{Some, None}
+use Rattle.std.specs.Prelude.{Some}
 use Rattle.std.specs.List.{count_by, find}
 use Rattle.std.proofs.lemmas.List.Recursion.{is_count_by}
 use Rattle.jobs.specs.Listed.{blank_job, view, goes_before, is_first_in, insert_due, is_of, pending_of, first_in, lead_of, lead_with}
@@ -53,24 +53,6 @@ own_law t (x ∷ xs) = go (is_of t x) (own_law t xs)
     go false ih = ih
 
 -- ---- the job that leads
-
-pub lead_next : (n : ℕ) (xs : List Job) → 1 < n → 1 < length xs → Some (get_or xs 1 blank_job) ≡ lead_of (drop 1 (take n xs))
-lead_next zero xs h m = absurd (omega (arith, h))
-lead_next (suc zero) xs h m = absurd (omega (arith, h))
-lead_next (suc (suc n)) [] h m = absurd (omega (arith, m))
-lead_next (suc (suc n)) (x ∷ []) h m = absurd (omega (arith, m))
-lead_next (suc (suc n)) (x ∷ y ∷ xs) h m = refl
-
-pub lead_gone : (n : ℕ) (xs : List Job) → n ≤ 1 → None ≡ lead_of (drop 1 (take n xs))
-lead_gone zero xs h = refl
-lead_gone (suc zero) [] h = refl
-lead_gone (suc zero) (x ∷ xs) h = refl
-lead_gone (suc (suc n)) xs h = absurd (omega (arith, h))
-
-pub lead_first : (n : ℕ) (xs : List Job) → (n ≡ 0 → ⊥) → 0 < length xs → Some (get_or xs 0 blank_job) ≡ lead_of (take n xs)
-lead_first zero xs h m = absurd (h refl)
-lead_first (suc n) [] h m = absurd (omega (arith, m))
-lead_first (suc n) (x ∷ xs) h m = refl
 
 -- where a new job enters, it leads or the one that led
 pub lead_with_lem : (b : Bool) (j : Job) (xs : List Job) → lead_with b j (lead_of xs) ≡ lead_of (cond b (insert_due j xs) xs)

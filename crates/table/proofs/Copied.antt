@@ -5,13 +5,12 @@ use mathlib.Core.List.{List, [], ◌∷◌, ◌++◌, foldl, append-nil}
 use native.Mathlib.Nat.{sub-zero}
 use native.Mathlib.Omega.{arith}
 use native.Mathlib.Decide.{dec_le}
-use borrow.Author.Tests.{lt-ltb, le-ltb, le-leb, lt-leb}
+use borrow.Author.Tests.{lt-ltb, le-leb, lt-leb}
 use lib.ListN.{length, take, set, replicate, length-append}
 use lib.Seq.{set-append_seam, append_snoc, take-length}
 use Rattle.rules.specs.declared.Line.{Line}
 use Rattle.rules.specs.Words.{places}
 use Rattle.rules.specs.Table.{no_line}
-use Rattle.table.specs.declared.LineList.{LineList}
 use Rattle.table.specs.Lines.{TaskTable, packed, lines_in}
 use Rattle.table.specs.Copy.{Copy, lines_read, begun, pushed, copy, as_list, pushed_of}
 use Rattle.table.proofs.Packed.{kept_lines, count_packed, packed_length}
@@ -36,9 +35,6 @@ module _ (p n : ℕ) where
 
 pub push_place : (p : ℕ) (c : Copy) (x : Line) → c.count < p → pushed p c x ≡ record { lines = set c.lines c.count x; count = c.count + 1 }
 push_place p c x h = rw (lt-ltb c.count p h)
-
-pub push_full : (p : ℕ) (c : Copy) (x : Line) → p ≤ c.count → pushed p c x ≡ c
-push_full p c x h = rw (le-ltb c.count p h)
 
 -- ---- all lines
 

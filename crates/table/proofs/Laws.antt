@@ -1,11 +1,11 @@
 -- What a turn of each loop and each test of the check does to what is left to do. Assumes nothing.
 use Prim.Native.Nat.{ℕ, zero, suc, ◌+◌, ◌-◌, ◌<◌, ◌≤◌}
 use mathlib.Core.Path.{◌≡◌, refl, ap, sym, ◌∙◌}
-use mathlib.Core.Bool.{Bool, true, false, not, ◌||◌, or-false}
+use mathlib.Core.Bool.{Bool, true, false, not, ◌||◌}
 use mathlib.Core.List.{List, ◌∷◌, ◌++◌, append-nil}
 use lib.ListN.{length, take, drop, set, replicate, length-take, length-append, length-replicate, drop_of_length-le}
 use lib.Seq.{drop-cons, length-take-le, take-suc-set, take_all, append_snoc}
-use lib.Dec.{ltb, leb}
+use lib.Dec.{ltb}
 use native.Mathlib.Numerals.{add-one}
 use native.Mathlib.Omega.{arith}
 use borrow.Author.Tests.{lt-ltb, le-ltb}
@@ -99,21 +99,6 @@ refused_number (Limit i) h = omega arith
 refused_number LimitSum h = omega arith
 refused_number (Priority i j) h = omega arith
 
--- ---- two lines
-
--- the first is the shorter: only its own test can hold
-pub clash_first : (x y : Line) → x.deadline.0 < y.deadline.0 → (breaks x y || breaks y x) ≡ leb x.priority y.priority
-clash_first x y h =
-    rw (lt-ltb x.deadline.0 y.deadline.0 h, le-ltb y.deadline.0 x.deadline.0 (omega arith)) (or-false (leb x.priority y.priority))
-
--- the second is the shorter
-pub clash_second : (x y : Line) → y.deadline.0 < x.deadline.0 → (breaks x y || breaks y x) ≡ leb y.priority x.priority
-clash_second x y h = rw (lt-ltb y.deadline.0 x.deadline.0 h, le-ltb x.deadline.0 y.deadline.0 (omega arith))
-
--- neither is the shorter
-pub clash_none : (x y : Line) → x.deadline.0 ≡ y.deadline.0 → (breaks x y || breaks y x) ≡ false
-clash_none x y h = rw (le-ltb x.deadline.0 y.deadline.0 (omega arith), le-ltb y.deadline.0 x.deadline.0 (omega arith))
-
 -- ---- the lines of a table
 
 module _ (xs : List Line) where
@@ -132,10 +117,6 @@ module _ (xs : List Line) where
   ranges_stop i r h z =
       rw (lines_step i h)
       (sym (ranges_line i (line_at xs i) (drop (suc i) xs) ∙ ap (λ (v : Verdict). v then ranges_from (suc i) (drop (suc i) xs)) (sym z) ∙ then_stop (refused_as r) _ (refused_number r)))
-
-  -- all lines are passed
-  pub ranges_end : (i : ℕ) → length xs ≤ i → ranges_from i (drop i xs) ≡ fine
-  ranges_end i h = rw (drop_of_length-le xs h)
 
   -- line i with those behind it, then the next line
   pub pairs_enter : (i : ℕ) → i < length xs → (pairs_with i (line_at xs i) (i + 1) (drop (i + 1) xs) then pairs_from (i + 1) (drop (i + 1) xs)) ≡ pairs_from i (drop i xs)
