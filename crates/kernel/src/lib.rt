@@ -10,7 +10,7 @@ use jobs::JobList;
 use rules::{Job, PLACES, Phase};
 use table::TaskTable;
 
-// The best job so far: where it stands, if there is one, and its priority.
+// The best job so far: where it stands, if there is one, and its priority. No Option of both: `no_best` of specs/Dispatch has a priority, too, the lowest.
 #[derive(Clone, Copy)]
 struct Best {
     found: Option<usize>,

@@ -149,7 +149,7 @@ fn clash(x: Line, y: Line) -> bool
     false
 }
 
-// 5: the first pair that breaks the priority rule, lowest first line, then lowest second.
+// 5: the first pair that breaks the priority rule, lowest first line, then lowest second. Document 01 names this form: two nested loops left by a label.
 fn pairs(lines: &[Line]) -> Result<(), TableRefusal>
     requires { length lines.now ≤ places }
     ensures { answered result ≡ pairs_from 0 lines.now }
