@@ -9,7 +9,7 @@ use borrow.Author.Tests.{lt-ltb, le-ltb}
 use Rattle.rules.specs.Words.{All}
 use Rattle.rules.specs.Print.{decimal_in, decimal}
 use Rattle.rules.proofs.Lists.{all_append}
-use Rattle.number.proofs.Groups.{below_or_not}
+use Rattle.std.proofs.lemmas.Bool.{cases_lt}
 use Rattle.transcript.specs.Claims.{digits_value, DecimalBack}
 
 -- one digit more: ten times the value, and the digit
@@ -36,7 +36,7 @@ value_is (suc k) n h =
     ⊎_elim
     (λ (l : n < 10). rw (digits_one k n l) (omega arith))
     (λ (l : 10 ≤ n). rw (digits_more k n l) (fold_last (decimal_in k (n / 10)) (48 + n % 10) 0 ∙ omega (arith, value_is k (n / 10) (tenth k n h))))
-    (below_or_not n 10)
+    (cases_lt n 10)
 
 all_digits : (k n : ℕ) → All (λ (b : ℕ). (48 ≤ b) × (b ≤ 57)) (decimal_in k n)
 unfolding decimal_in
@@ -45,7 +45,7 @@ all_digits (suc k) n =
     ⊎_elim
     (λ (l : n < 10). rw (digits_one k n l) ((omega arith, omega arith), tt))
     (λ (l : 10 ≤ n). rw (digits_more k n l) (all_append _ (decimal_in k (n / 10)) ((48 + n % 10) ∷ []) (all_digits k (n / 10)) ((omega arith, omega arith), tt)))
-    (below_or_not n 10)
+    (cases_lt n 10)
 
 -- the first digit of a number that is not 0 is not 0
 abbrev Leads : List ℕ → Type 0
@@ -62,7 +62,7 @@ leads (suc k) n z h =
     ⊎_elim
     (λ (l : n < 10). rw (digits_one k n l) (omega arith))
     (λ (l : 10 ≤ n). rw (digits_more k n l) (leads_more (decimal_in k (n / 10)) ((48 + n % 10) ∷ []) (leads k (n / 10) (omega arith) (tenth k n h))))
-    (below_or_not n 10)
+    (cases_lt n 10)
 
 no_zero : (n : ℕ) → n < 10 ^ 20 → (t : List ℕ) → decimal n ≡ 48 ∷ t → t ≡ []
 no_zero zero h t e = let same : (48 ∷ []) ≡ 48 ∷ t = sym (digits_one 19 0 (omega arith)) ∙ e in ap drop_first (sym same)

@@ -19,7 +19,7 @@ use Rattle.rules.specs.Number.{Read, taken, bounded_at}
 use Rattle.rules.specs.Tape.{greatest_byte, table_at}
 use Rattle.rules.specs.Print.{Opened, longest, table_opened, count_above, opening}
 use Rattle.rules.proofs.Checked.{keeps_found, found_keeps}
-use Rattle.number.proofs.Groups.{below_or_not}
+use Rattle.std.proofs.lemmas.Bool.{cases_lt}
 use Rattle.number.proofs.Round.{bounded_value}
 use Rattle.tape.specs.Claims.{NumberWithin}
 use Rattle.tape.proofs.Tables.{table_counted}
@@ -72,7 +72,7 @@ module _ (tape : List ℕ) where
           ⊎_elim
           (λ (h : 32 < t.value). inl (rw (e, lt-ltb places t.value h), t.value, t.next, is_within t.value t.next e, h))
           (λ (h : t.value ≤ 32). inr (rw (e, le-ltb places t.value h), λ k p w. let same : t.value ≡ k = one_read t k p (sym e ∙ within_is k p w) in omega arith))
-          (below_or_not 32 t.value)
+          (cases_lt 32 t.value)
 
   -- a table that was read and has at most 32 lines
   few_counted : (T : Table) (p : ℕ) → table_at tape ≡ taken T p → size T ≤ 32 → count_above count_read ≡ false
@@ -96,7 +96,7 @@ module _ (tape : List ℕ) where
       (λ (c : Above). rw (le-ltb longest (length tape) h, c.0) (count_above_lem c.1 c.2 h c.3 c.4))
       (λ (c : Few). rw (le-ltb longest (length tape) h, c.0) (of_read h c.1 (table_at tape) refl))
       above_or_few)
-      (below_or_not 65536 (length tape))
+      (cases_lt 65536 (length tape))
     where
       of_check : length tape ≤ 65536 → (T : Table) (p : ℕ) → table_at tape ≡ taken T p → size T ≤ 32 → (u : Bool) → eqb (check T).number 0 ≡ u
           → OpensAs tape (cond u (Ok (record { value = T; next = p })) (Err (BadTable (check T))))
