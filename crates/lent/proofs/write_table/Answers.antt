@@ -1,16 +1,30 @@
 -- `lent::write_table` meets its contract. Assumes nothing.
 use mathlib.Core.Path.{◌≡◌, sym, subst}
-use Prim.Native.Nat.{ℕ, ◌≤◌, ◌<◌}
-use mathlib.Core.List.{List}
-use lib.ListN.{length, take, replicate}
+use Prim.Native.Nat.{ℕ, ◌-◌, ◌≤◌, ◌<◌}
+use mathlib.Core.Bool.{Bool, true}
+use mathlib.Core.List.{List, ◌++◌}
+use borrow.Author.Tests.{lt-ltb}
+use lib.ListN.{length, take, replicate, length-append, length-take, length-replicate}
 use native.Mathlib.Omega.{arith}
 use Rattle.rules.specs.declared.Line.{Line}
-use Rattle.rules.specs.Table.{Table}
-use Rattle.rules.specs.Tape.{Written, bad_table, table_bytes, TableWrote}
+use Rattle.rules.specs.Table.{Table, no_line}
+use Rattle.rules.specs.Tape.{greatest_byte, Written, bad_table, table_bytes, Wrote, TableWrote}
 use Rattle.tape.specs.Tables.{given_lines}
-use Rattle.tape.proofs.Copying.{lines_refused, refused_alike}
-use Rattle.tape.proofs.Sizes.{given_is, given_many}
+use Rattle.tape.proofs.Sizes.{given_is}
 use Rattle.lent.proofs.write_table.Goals as goal
+
+-- more than 255 lines are refused with 24
+lines_refused : (xs : List Line) → greatest_byte < length xs → bad_table (record { lines = xs }) ≡ true
+lines_refused xs h = rw (lt-ltb _ _ h)
+
+given_many : (lines : List Line) (count : ℕ) → length lines ≡ 255 → 255 < count → bad_table (given_lines lines count) ≡ true
+given_many lines count held h =
+    let many : 255 < length (take count lines ++ replicate (count - length lines) no_line) = simp (length-append, length-take, length-replicate) (omega arith) in
+    rw (lt-ltb _ _ many)
+
+-- what is refused with 24 is written alike
+refused_alike : (bad bad' : Bool) (bytes bytes' old : List ℕ) (r : Written) (new : List ℕ) → bad ≡ true → bad' ≡ true → Wrote bad bytes old r new → Wrote bad' bytes' old r new
+refused_alike bad bad' bytes bytes' old r new p p' w = record { answer = rw p' (rw p at w.answer); buffer = rw p' (rw p at w.buffer) }
 
 -- up to 255 lines are all lent
 part_wrote : (lines : List Line) (count : ℕ) (old : List ℕ) (r : Written) (new : List ℕ) → length lines ≡ 255 → count ≤ 255 → TableWrote (record { lines = take count lines }) old r new → TableWrote (given_lines lines count) old r new
