@@ -11,7 +11,8 @@ use rules::{Job, Phase, Running, Tick, Verdict};
 use scheduler::State;
 use table::TaskTable;
 
-// A state that calls are made on, and whether an answer stands alone on its line.
+// A state that calls are made on, and whether an answer stands alone on its line. That the check handed it out is no ghost field: `Handed` has a table and a head in
+// it, and is no fact alone.
 #[derive(Clone, Copy)]
 struct Run {
     state: State,

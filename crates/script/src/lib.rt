@@ -86,7 +86,8 @@ pub fn byte_at(text: &[u8], at: usize) -> u8 {
 
 // ---- numbers
 
-// A number with one more digit. From 18,446,744,073,709,551,610 on, numbers read as the greatest that 64 bits hold.
+// A number with one more digit. From 18,446,744,073,709,551,610 on, numbers read as the greatest that 64 bits hold, so it is no
+// `saturating_mul`.
 fn with_digit(value: u64, digit: u8) -> u64
     requires { digit ≤ 9 }
 {
@@ -157,7 +158,7 @@ const MOST: usize = 255;
 // Lines by their places, and how many there are.
 pub type Lines = LineList<MOST>;
 
-// One more line; from 256 lines on nothing changes.
+// One more line; from 256 lines on nothing changes. (`LineList::copied` counts no line that has no place.)
 fn put_line(told: &mut Lines, line: Line) {
     if told.count <= MOST {
         if told.count < MOST {
@@ -228,7 +229,7 @@ pub fn table_of(text: &[u8]) -> TaskTable {
 // How many bytes a tape or a buffer of a run has at most.
 pub const ROOM: usize = 65537;
 
-// Bytes put one behind the other, as far as there is room.
+// Bytes put one behind the other, as far as there is room; an array, since there is no heap. (A `print::Page` speaks of any place, a room of none behind its end.)
 #[derive(Drop)]
 pub struct Room<const N: usize> {
     pub bytes: [u8; N],
