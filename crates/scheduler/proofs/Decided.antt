@@ -11,7 +11,7 @@ use Rattle.rules.specs.declared.Line.{Line}
 use Rattle.rules.specs.declared.Late.{Late}
 use Rattle.rules.specs.declared.Tally.{Tally}
 use Rattle.rules.specs.declared.Call.{Call}
-use Rattle.std.specs.Prelude.{Result, is_ok, Option}
+use Rattle.std.specs.Prelude.{is_ok, Option}
 use Rattle.rules.specs.Answers.{Choice, result_number}
 use Rattle.rules.specs.declared.KernelCall.{KernelCall}
 use Rattle.rules.specs.declared.KernelCall.TheVariants.{NoCall}

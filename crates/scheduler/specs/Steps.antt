@@ -10,11 +10,10 @@ use Rattle.rules.specs.declared.KernelCall.{KernelCall}
 use Rattle.rules.specs.declared.KernelCall.TheVariants.{NoCall, ActivateTask, ChainTask, TerminateTask}
 use Rattle.rules.specs.declared.CallRefusal.{CallRefusal}
 use Rattle.rules.specs.declared.CallRefusal.TheVariants.{NoJob, NoTask, LimitReached, BadTick, DueBeyond, NoPlace}
-use Rattle.rules.specs.Answers.{Choice, runs_as, phase_of, result_number}
+use Rattle.rules.specs.Answers.{Choice, runs_as, phase_of}
 use Rattle.rules.specs.declared.Late.{Late}
 use Rattle.rules.specs.declared.Reason.{Reason}
 use Rattle.rules.specs.declared.Reason.TheVariants.{NonePending, ItRuns, Earlier, ThereFirst}
-use Rattle.rules.specs.Words.{◌if◌else◌}
 use Rattle.rules.specs.Calls.{bad_tick}
 use Rattle.rules.specs.Counts.{no_tallies, ended_more, on_task, with_late}
 use Rattle.ticks.specs.Ticks.{sum, is_beyond, response_by}
