@@ -39,3 +39,4 @@ pub mod Searched
 pub mod Taking
 pub mod Cases
 pub mod Claims
+mod Outcomes
