@@ -22,7 +22,7 @@ pub fn check(lines: &[Line]) -> Checked
     scheduler::check(TaskTable::copied(lines))
 }
 
-// ---- the calls
+// ---- the calls: alike but for the step that each makes; one function over a closure would be as long at each
 
 // Tick: time moves; no kernel call.
 pub fn tick(s: &mut State, at: Tick) -> Answer

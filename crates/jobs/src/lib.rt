@@ -135,7 +135,7 @@ impl JobList {
         }
     }
 
-    // A refused call works among no jobs, and puts the job in the first place where it stands.
+    // A refused call works among no jobs, and puts the job in the first place where it stands. So `accepted` is a flag and no Option of the job: one walk and one copy serve both.
     fn aimed(&self, job: Job, accepted: bool) -> Aim
         ensures { result ≡ aim_of self.now job accepted }
     {

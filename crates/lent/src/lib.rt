@@ -40,7 +40,7 @@ pub fn write_table(
     board::write_table(&[Line::default(); 256], buf)
 }
 
-// ---- the calls
+// ---- the calls: alike but for the call of the board that each makes; one function over a closure would be as long at each
 
 // As `board::tick`, on a state that is lent to it and comes back.
 pub fn tick(mut s: State, at: Tick) -> Stepped

@@ -4,7 +4,7 @@
 use print::Page;
 use script::{ROOM, Room};
 use std::fmt::Write;
-use streams::{STDIN_FILENO, STDOUT_FILENO};
+use streams::STDOUT_FILENO;
 
 // ---- a long print, summed up
 
@@ -105,10 +105,12 @@ fn line_of(text: &[u8]) {
     }
 }
 
-fn main() {
-    let mut words = io::large_buffer();
-    let n = io::read_full(STDIN_FILENO, &mut words);
-    for line in script::split(&words[..n], b'\n') {
+fn lines(text: &[u8]) {
+    for line in script::split(text, b'\n') {
         line_of(line);
     }
+}
+
+fn main() {
+    streams::text_program(lines);
 }

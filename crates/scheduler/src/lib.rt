@@ -29,7 +29,7 @@ pub struct State {
     pub monitor: Monitor,
 }
 
-// What the check gives: a fresh state (an empty one of no lines after a refusal), and its answer.
+// What the check gives: a fresh state (an empty one of no lines after a refusal), and its answer. No Result: the state after a refusal is promised, too (CheckGives), and C is given both.
 #[derive(Clone, Copy)]
 pub struct Checked {
     pub state: State,
@@ -346,6 +346,7 @@ fn number_of(allowed: Result<(), CallRefusal>) -> u8
 }
 
 // ---- the parts of a call
+// `accepted` is a flag beside what a part works on, and no Option of that: a refused call has an answer of its own, and goes the same way.
 
 // The job that an activation at this tick would make, and the limit that it has to keep.
 fn asked(line: Line, at: Tick, task: u8) -> Activation

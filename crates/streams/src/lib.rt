@@ -1,4 +1,4 @@
-// The numbers of a program's three streams, as every program finds them; and the program over a tape.
+// The numbers of a program's three streams, as every program finds them; and the programs over a tape and over a text.
 #![tactic(auto)]
 
 use tape::MOST_BYTES;
@@ -24,4 +24,13 @@ pub fn tape_program<F: FnOnce(&[u8]) -> bool>(print: F)
     let mut tape = [0u8; MOST_BYTES + 1];
     let n = io::read_full(STDIN_FILENO, &mut tape);
     tell(print(&tape[..n]));
+}
+
+// Reads a text from standard input, and runs it.
+pub fn text_program<F: FnOnce(&[u8])>(run: F)
+    requires { F.IsAlwaysCallable run }
+{
+    let mut text = io::large_buffer();
+    let n = io::read_full(STDIN_FILENO, &mut text);
+    run(&text[..n]);
 }

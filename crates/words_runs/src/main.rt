@@ -6,7 +6,7 @@
 use print::Page;
 use script::Room;
 use std::fmt::Write;
-use streams::{STDIN_FILENO, STDOUT_FILENO};
+use streams::STDOUT_FILENO;
 use tape::MOST_BYTES;
 use words::Shown;
 
@@ -135,10 +135,12 @@ fn answer(line: &[u8]) {
     }
 }
 
-fn main() {
-    let mut text = io::large_buffer();
-    let n = io::read_full(STDIN_FILENO, &mut text);
-    for line in script::split(&text[..n], b'\n') {
+fn lines(text: &[u8]) {
+    for line in script::split(text, b'\n') {
         answer(line);
     }
+}
+
+fn main() {
+    streams::text_program(lines);
 }
