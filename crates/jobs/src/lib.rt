@@ -307,7 +307,7 @@ fn find_of(jobs: &[Job], task: u8) -> Option<Job>
     jobs.iter().copied().find(|job| task == job.task)
 }
 
-// The job that leads where a new one enters.
+// The job that leads where a new one enters; a flag, since a refused call asks, too, and nothing enters then.
 pub fn front_with(lead: Option<Job>, job: Job, enters: bool) -> Option<Job>
     ensures { result ≡ lead_with enters job lead }
 {

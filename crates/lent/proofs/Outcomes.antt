@@ -11,7 +11,7 @@ use Rattle.lent.proofs.why.Reads as why
 
 pub record Outcomes : Type 0 where
   check : OneStated check.Post
-  write_table : OneStatedWith write_table.Post (λ κs s. s.1.1.0.now)
+  write_table : OneStatedWith write_table.Post (λ κs s. s.1.0.now)
   tick : OneStated tick.Post
   activate : OneStated activate.Post
   terminate : OneStated terminate.Post

@@ -9,7 +9,7 @@ ghost use Rattle.scheduler.specs.State.{Handed, CheckGives, CallGives, why_of};
 
 use rules::{Call, CallRefusal, Line, PLACES, Reason, TapeRefusal, Tick};
 use scheduler::{Checked, State, Stepped};
-use table::TaskTable;
+use table::{LineList, TaskTable};
 use tape::MOST_LINES;
 
 // ---- the check
@@ -27,15 +27,12 @@ pub fn check(given: TaskTable) -> Checked
 // ---- the table on tape
 
 // The table, as `tape::write_table`. Up to 255 lines are lent; of more the count alone decides, so any 256 are.
-pub fn write_table(
-    lines: [Line; MOST_LINES],
-    count: usize,
-    buf: &mut [u8],
-) -> Result<usize, TapeRefusal>
-    ensures { TableWrote (given_lines lines count) buf.old result buf.new }
+pub fn write_table(table: LineList<MOST_LINES>, buf: &mut [u8]) -> Result<usize, TapeRefusal>
+    ensures { TableWrote (given_lines table.lines table.count) buf.old result buf.new }
 {
+    let count = table.count;
     if count <= MOST_LINES {
-        return board::write_table(&lines[..count], buf);
+        return board::write_table(&table.lines[..count], buf);
     }
     board::write_table(&[Line::default(); 256], buf)
 }

@@ -14,6 +14,7 @@ use Rattle.print.proofs.Page.verdict.Reads as verdict
 use Rattle.print.proofs.Page.answer_line.Reads as answer_line
 use Rattle.print.proofs.Page.header_line.Reads as header_line
 use Rattle.print.proofs.Page.table_line.Reads as table_line
+use Rattle.print.proofs.Page.tape_numbers.Reads as tape_numbers
 use Rattle.print.proofs.Page.tape_line.Reads as tape_line
 
 pub record Outcomes : Type 0 where
@@ -29,6 +30,7 @@ pub record Outcomes : Type 0 where
   answer_line : OneStatedWith answer_line.Post (λ κs s. s.0.now)
   header_line : OneStatedWith header_line.Post (λ κs s. s.0.now)
   table_line : OneStatedWith table_line.Post (λ κs s. s.0.now)
+  tape_numbers : OneStatedWith tape_numbers.Post (λ κs s. s.0.now)
   tape_line : OneStatedWith tape_line.Post (λ κs s. s.0.now)
 
 pub the_outcomes : Outcomes
@@ -46,5 +48,6 @@ the_outcomes =
       answer_line = λ κs a r r' s s' p q. (refl, one_page s.0.now s'.0.now p q);
       header_line = λ κs a r r' s s' p q. (refl, one_page s.0.now s'.0.now p q);
       table_line = λ κs a r r' s s' p q. (refl, one_page s.0.now s'.0.now p q);
+      tape_numbers = λ κs a r r' s s' p q. (refl, one_page s.0.now s'.0.now p q);
       tape_line = λ κs a r r' s s' p q. (refl, one_page s.0.now s'.0.now p q);
     }

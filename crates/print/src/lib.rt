@@ -187,15 +187,22 @@ impl Page {
         self.byte(b'\n');
     }
 
+    // A bad tape's line, by the refusal's number and the place.
+    pub fn tape_numbers(&mut self, refusal: u8, place: usize)
+        ensures { Put self.old.bytes self.old.len (ended (tape_text refusal place)) self.new.bytes self.new.len }
+    {
+        self.words(b"tape ");
+        self.number(refusal as u64);
+        self.words(b" at ");
+        self.number(place as u64);
+        self.byte(b'\n');
+    }
+
     // A bad tape's line: the refusal's number and the place.
     pub fn tape_line(&mut self, halt: Halt)
         ensures { Put self.old.bytes self.old.len (ended (tape_text (tape_number halt.refusal) halt.place)) self.new.bytes self.new.len }
     {
-        self.words(b"tape ");
-        self.number(u8::from(halt.refusal) as u64);
-        self.words(b" at ");
-        self.number(halt.place as u64);
-        self.byte(b'\n');
+        self.tape_numbers(u8::from(halt.refusal), halt.place);
     }
 
     // ---- out

@@ -4,7 +4,6 @@
 use print::Page;
 use script::{ROOM, Room};
 use std::fmt::Write;
-use streams::STDOUT_FILENO;
 
 // ---- a long print, summed up
 
@@ -85,8 +84,8 @@ fn long(tape: &[u8]) {
 // A line of words. One that begins with a small letter is a tape: 'tape: 01 05 ..' is printed, and what it prints; 'why: ..', and why its tasks wait;
 // 'long: ..', and the sum of what it prints.
 fn line_of(text: &[u8]) {
-    io::write_all(STDOUT_FILENO, text);
-    io::write_all(STDOUT_FILENO, b"\n");
+    show::put(text);
+    show::put(b"\n");
     let letter = script::byte_at(text, 0);
     if letter < b'a' {
         return;

@@ -5,7 +5,7 @@ ghost use Rattle.rules.specs.Print.{spaced};
 ghost use Rattle.rules.specs.WhyPrint.{reason_words, why_words, why_text, why_lines, why_transcript};
 ghost use Rattle.scheduler.specs.State.{table_of, head_of, Handed};
 ghost use Rattle.print.specs.Buffers.{Put};
-ghost use Rattle.reasons.specs.Words.{waits_text};
+ghost use Rattle.reasons.specs.Words.{waits_text, refused_text};
 ghost use Rattle.reasons.specs.Claims.{Claims};
 
 use print::Page;
@@ -47,16 +47,21 @@ fn because(page: &mut Page, reason: Reason)
     }
 }
 
+// The words of a refused question, by the refusal's number.
+pub fn refused(page: &mut Page, number: u8)
+    ensures { Put page.old.bytes page.old.len (refused_text number) page.new.bytes page.new.len }
+{
+    page.words(b"is refused: ");
+    page.number(number as u64);
+}
+
 // An answer's words.
 fn told(page: &mut Page, answer: Result<Reason, CallRefusal>)
     ensures { Put page.old.bytes page.old.len (spaced (why_words answer)) page.new.bytes page.new.len }
 {
     match answer {
         Ok(reason) => because(page, reason),
-        Err(refusal) => {
-            page.words(b"is refused: ");
-            page.number(u8::from(refusal) as u64);
-        }
+        Err(refusal) => refused(page, u8::from(refusal)),
     }
 }
 

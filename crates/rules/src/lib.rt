@@ -35,7 +35,7 @@ pub enum Named {
     BothLines(u8, u8),
 }
 
-// What the check answers: its number, and the lines named. A number, and no Result: the claim CheckExact speaks of 0 to 5, and C is told it.
+// What the check answers: its number, and the lines named. A number, and no Result: the claim CheckExact speaks of 0 to 5, and `HeadVerdict` tells C so.
 #[derive(Clone, Copy)]
 pub struct Verdict {
     pub number: u8,
@@ -115,7 +115,7 @@ pub struct Late {
     pub tasks: [u8; PLACES],
 }
 
-// What a call returns. Its result is a number, 0 or a refusal's: the claim RefusalsExact speaks of it so, and C is told it.
+// What a call returns. Its result is a number, 0 or a refusal's: the claim RefusalsExact speaks of it so, and `HeadAnswer` tells C so.
 #[derive(Clone, Copy)]
 pub struct Answer {
     pub result: u8,

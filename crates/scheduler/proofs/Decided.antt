@@ -74,29 +74,29 @@ pub record Parts (s : State) (b : Bool) (t : Tick) (m : Change) (acc : Late → 
   pub runs : run ≡ choice_in (view list)
   pub calls : call ≡ cond b m.call NoCall
 
-made_if : (s : State) → Handed s → (e : Call) (k : ℕ) (b : Bool) → k ≡ refusal_in s e → b ≡ eqb k 0
+pub decided : (s : State) → Handed s → (e : Call) (k : ℕ) (b : Bool) → k ≡ refusal_in s e → b ≡ eqb k 0
     → (t : Tick) (m : Change) (acc : Late → Monitor) → accepted_in s e ≡ accepted_of s.table t (late_of s t) (acc (late_of s t)) m
     → (now : Tick) (list : JobList) (monitor : Monitor) (run : Choice) (call : KernelCall) (late : Late) → Parts s b t m acc now list monitor run call late
     → made s now list monitor k run call late ≡ step_of s e
 unfolding refused_of accepted_of
-made_if s d e k true q a t m acc w now list monitor run call late p =
+decided s d e k true q a t m acc w now list monitor run call late p =
     let z : k ≡ 0 = eqb-true k 0 (sym a) in
     let l : late ≡ late_of s t = p.lates ∙ ap (λ (x : Tick). newly_late_in s.last x (view s.list)) p.time in
     let c : monitor ≡ acc (late_of s t) = p.tallies ∙ ap acc l in
     let r : run ≡ choice_in (view m.list) = p.runs ∙ ap (λ (x : JobList). choice_in (view x)) p.jobs in
     (λ i. made s (p.time i) (p.jobs i) (c i) (z i) (r i) (p.calls i) (l i)) ∙ sym w ∙ handed_accepted s d e (sym q ∙ z)
-made_if s d e k false q a t m acc w now list monitor run call late p =
+decided s d e k false q a t m acc w now list monitor run call late p =
     let l : late ≡ late_in [] = p.lates ∙ ap (λ (x : Tick). newly_late_in s.last x (view s.list)) p.time ∙ late_still s.last (view s.list) in
     let c : monitor ≡ s.monitor = p.tallies ∙ ap (λ (x : Late). late_counted x s.monitor) l ∙ count_none s.monitor in
     let r : run ≡ choice_in (view s.list) = p.runs ∙ ap (λ (x : JobList). choice_in (view x)) p.jobs in
     (λ i. made s (p.time i) (p.jobs i) (c i) k (r i) (p.calls i) (l i)) ∙ handed_refused s d e k q (eqb-false k 0 (sym a))
 
 -- o is what the code finds for the call
-pub decided : (s : State) → Handed s → (e : Call) (o : Allowed) (k : ℕ) (b : Bool) → o ≡ allowed_in s e → k ≡ result_number o → b ≡ is_ok o
+pub decided_as : (s : State) → Handed s → (e : Call) (o : Allowed) (k : ℕ) (b : Bool) → o ≡ allowed_in s e → k ≡ result_number o → b ≡ is_ok o
     → (t : Tick) (m : Change) (acc : Late → Monitor) → accepted_in s e ≡ accepted_of s.table t (late_of s t) (acc (late_of s t)) m
     → (now : Tick) (list : JobList) (monitor : Monitor) (run : Choice) (call : KernelCall) (late : Late) → Parts s b t m acc now list monitor run call late
     → made s now list monitor k run call late ≡ step_of s e
-decided s d e o k b q n a = made_if s d e k b (n ∙ ap result_number q) (a ∙ ok_at_0 o ∙ ap (λ z. eqb z 0) (sym n))
+decided_as s d e o k b q n a = decided s d e k b (n ∙ ap result_number q) (a ∙ ok_at_0 o ∙ ap (λ z. eqb z 0) (sym n))
 
 -- ---- the parts, by the flag
 
@@ -159,8 +159,11 @@ kept_if true l = refl
 kept_if false l = refl
 
 -- a call is accepted where the number found is 0
-pub accepted_if : (s : State) (e : Call) (o : Allowed) (b : Bool) → o ≡ allowed_in s e → b ≡ is_ok o → b ≡ true → refusal_in s e ≡ 0
-accepted_if s e o b q a t = ap result_number (sym q) ∙ eqb-true (result_number o) 0 (sym (ok_at_0 o) ∙ sym a ∙ t)
+pub accepted_if : (k m : ℕ) (b : Bool) → k ≡ m → b ≡ eqb k 0 → b ≡ true → m ≡ 0
+accepted_if k m b q a t = sym q ∙ eqb-true k 0 (sym a ∙ t)
+
+pub allowed_if : (s : State) (e : Call) (o : Allowed) (b : Bool) → o ≡ allowed_in s e → b ≡ is_ok o → b ≡ true → refusal_in s e ≡ 0
+allowed_if s e o b q a t = ap result_number (sym q) ∙ eqb-true (result_number o) 0 (sym (ok_at_0 o) ∙ sym a ∙ t)
 
 -- what an activation asks for
 pub asked_is : (t : TaskTable) (at : Tick) (n : ℕ) (x : Line) (new : Activation) → x ≡ line_at t.lines n → new ≡ asked_by x at n → new ≡ asked_of t at n

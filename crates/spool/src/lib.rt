@@ -161,10 +161,7 @@ fn write_one(text: &[u8], buf: &mut [u8]) -> Result<usize, TapeRefusal> {
     match script::byte_at(text, 1) {
         b'n' => number::write_number(script::number(text).0, buf),
         b'r' => write_record(text, buf),
-        _ => {
-            let told = script::lines_of(text);
-            lent::write_table(told.lines, told.count, buf)
-        }
+        _ => { lent::write_table(script::lines_of(text), buf) }
     }
 }
 

@@ -6,6 +6,9 @@ use Rattle.table.proofs.lines_of.Reads as lines_of
 use Rattle.table.proofs.check.Reads as check
 use Rattle.table.proofs.kept.Reads as kept
 use Rattle.table.proofs.empty.Reads as empty
+use Rattle.table.proofs.LineList.lines_read.Reads as lines_read
+use Rattle.table.proofs.LineList.begun.Reads as begun
+use Rattle.table.proofs.LineList.pushed.Reads as pushed
 use Rattle.table.proofs.LineList.copied.Reads as copied
 
 pub record Outcomes : Type 0 where
@@ -14,6 +17,9 @@ pub record Outcomes : Type 0 where
   check : OneStated check.Post
   kept : OneStated kept.Post
   empty : OneStated empty.Post
+  lines_read : (n : ℕ) (f : Fits w64 n) → OneStated (lines_read.Post n f)
+  begun : (n : ℕ) (f : Fits w64 n) → OneStated (begun.Post n f)
+  pushed : (n : ℕ) (f : Fits w64 n) → OneStated (pushed.Post n f)
   copied : (n : ℕ) (f : Fits w64 n) → OneStated (copied.Post n f)
 
 pub the_outcomes : Outcomes
@@ -24,5 +30,8 @@ the_outcomes =
       check = λ κs a r r' s s'. only;
       kept = λ κs a r r' s s'. only;
       empty = λ κs a r r' s s'. only;
+      lines_read = λ n f κs a r r' s s'. only;
+      begun = λ n f κs a r r' s s'. only;
+      pushed = λ n f κs a r r' s s'. only;
       copied = λ n f κs a r r' s s'. only;
     }

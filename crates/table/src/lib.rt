@@ -117,6 +117,8 @@ fn in_range(i: u8, line: Line) -> Result<(), TableRefusal>
     Ok(())
 }
 
+// ---- the checks of the lines, as a slice of at most 32: so each asks, and `checked` has tested it once
+
 // 2 and 3, line by line from line 0.
 fn ranges(lines: &[Line]) -> Result<(), TableRefusal>
     requires { length lines.now ≤ places }
@@ -223,14 +225,14 @@ pub fn empty() -> TaskTable
 
 impl<const N: usize> LineList<N> {
     // How many of so many lines are copied: of more than N none, since their count alone refuses them.
-    fn lines_read(given: usize) -> usize
+    pub fn lines_read(given: usize) -> usize
         ensures { result ≡ lines_read N given }
     {
         if given <= N { given } else { 0 }
     }
 
     // The copy before its first line: of more than N it holds their count.
-    fn begun(given: usize) -> LineList<N>
+    pub fn begun(given: usize) -> LineList<N>
         ensures { result ≡ as_list N (begun N given) }
     {
         LineList {
@@ -240,7 +242,7 @@ impl<const N: usize> LineList<N> {
     }
 
     // One line more. A full list stays as it is.
-    fn pushed(self, line: Line) -> LineList<N>
+    pub fn pushed(self, line: Line) -> LineList<N>
         ensures { result ≡ pushed_of N self.entry line }
     {
         let n = self.count;

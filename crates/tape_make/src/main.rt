@@ -20,11 +20,7 @@ fn room() -> [u8; MOST_TEXT + 1]
 fn answer(text: &[u8]) {
     let mut tape = [0u8; MOST_BYTES];
     match words::make(text, &mut tape) {
-        Ok(n) => {
-            if !io::write_all(STDOUT_FILENO, &tape[..n]) {
-                io::write_all(STDERR_FILENO, b"standard output takes no more\n");
-            }
-        }
+        Ok(n) => streams::tell(io::write_all(STDOUT_FILENO, &tape[..n])),
         Err(trouble) => words::say_fault(trouble),
     }
 }

@@ -9,15 +9,16 @@ ghost use Rattle.transcript.specs.Pieces.{Opens, called_of, halt_of, halt_text, 
 ghost use Rattle.transcript.specs.Claims.{Claims};
 
 use print::{Page, ROOM};
-use rules::{Answer, Call, Halt, Named, PLACES, Taken, TapeRefusal, Tick, Unopened, Verdict};
+use rules::{Answer, Call, Halt, PLACES, Taken, TapeRefusal, Tick, Unopened};
 use scheduler::State;
 use streams::STDOUT_FILENO;
+use table::TableRefusal;
 use tape::MOST_BYTES;
 
 // How many bytes are kept free for a line. None is longer (specs/Claims, LinesFit).
 const LINE: usize = 1024;
 
-// How far a tape was run: the state, the place of the next record, and the tick of the one before it.
+// How far a tape was run: the state, the place of the next record, and the tick of the one before it. That the state is handed out stands where a run is used: `Handed` holds a table and a head, so it is no fact that a ghost field could hold.
 #[derive(Clone, Copy)]
 pub struct Run {
     pub state: State,
@@ -59,10 +60,7 @@ pub fn open(tape: &[u8]) -> Result<Run, Unopened>
         }));
     }
     if is_above(tape::read_count(tape)) {
-        return Err(Unopened::BadTable(Verdict {
-            number: 1,
-            lines: Named::NoneNamed,
-        }));
+        return Err(Unopened::BadTable(TableRefusal::LineCount.into()));
     }
     let read = tape::read_table(tape).map_err(|refusal| Unopened::BadTape(Halt {
         refusal,

@@ -13,13 +13,6 @@ use words::Shown;
 // A text of a run. What is longer is cut off.
 type Text = Room<524288>;
 
-// How many bytes of a tape are printed at most.
-const MOST_BYTES_SHOWN: usize = 40;
-
-fn say(text: &[u8]) {
-    io::write_all(STDOUT_FILENO, text);
-}
-
 // ---- texts and tapes of a line
 
 // What a sign of a text stands for.
@@ -78,19 +71,14 @@ fn accepted(tape: &[u8]) {
     let mut page = Page::new();
     let n = tape.len();
     let _ = write!(page, "{n} bytes:");
-    for b in tape.iter().take(MOST_BYTES_SHOWN) {
-        let _ = write!(page, " {b:02X}");
-    }
-    if MOST_BYTES_SHOWN < n {
-        page.words(b" ..");
-    }
+    page.send(STDOUT_FILENO);
+    show::bytes(tape);
     let text = text_of(tape);
-    page.words(if makes(text.as_slice(), tape) {
-        b"; same"
+    if makes(text.as_slice(), tape) {
+        show::put(b"; same\n");
     } else {
-        b"; differs"
-    });
-    show::send(&mut page);
+        show::put(b"; differs\n");
+    }
 }
 
 fn make(text: &[u8]) {
@@ -109,29 +97,31 @@ fn make(text: &[u8]) {
 fn show_tape(tape: &[u8]) {
     let text = text_of(tape);
     for line in script::split(text.as_slice(), b'\n') {
-        say(line);
-        say(b"/");
+        show::put(line);
+        show::put(b"/");
     }
-    say(b"\n");
+    show::put(b"\n");
 }
 
 // ---- lines
 
 // A line of standard input. One that begins with a small letter is asked, from behind its first five bytes on.
 fn answer(line: &[u8]) {
-    say(line);
+    show::put(line);
     match line {
         [b'm', _, _, _, _, signs @ ..] => {
-            say(b" -> ");
+            show::put(b" -> ");
             make(expanded(signs).as_slice());
         }
         [b'a'..=u8::MAX, _, _, _, _, bytes @ ..] => {
-            say(b" -> ");
+            show::put(b" -> ");
             let mut tape: Room<{ script::ROOM }> = Room::new();
             tape.words(bytes, 0, bytes.len());
             show_tape(tape.as_slice());
         }
-        _ => say(b"\n"),
+        _ => {
+            show::put(b"\n");
+        }
     }
 }
 

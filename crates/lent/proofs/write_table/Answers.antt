@@ -38,8 +38,8 @@ more_wrote x lines count old r new held many =
 
 pub returns-then-count-le-MOST_LINES : goal.returns-then-count-le-MOST_LINES
 returns-then-count-le-MOST_LINES c =
-    part_wrote c.args.lines c.args.count _ _ _ (omega (arith, c.well_formed)) c.if-count-le-MOST_LINES.true c.write_table.ensures
+    part_wrote c.args.table.lines c.args.table.count _ _ _ (omega (arith, c.well_formed)) c.if-count-le-MOST_LINES.true c.write_table.ensures
 
 pub returns : goal.returns
 returns c =
-    more_wrote c.default.result c.args.lines c.args.count _ _ _ (omega (arith, c.well_formed)) (omega arith) c.write_table-2.ensures
+    more_wrote c.default.result c.args.table.lines c.args.table.count _ _ _ (omega (arith, c.well_formed)) (omega arith) c.write_table-2.ensures

@@ -1,11 +1,12 @@
 -- `reasons::told` meets its contract. Assumes nothing.
 use mathlib.Core.Path.{sym, ap, ◌∙◌}
 use Rattle.std.specs.Prelude.{Result}
-use Rattle.print.proofs.Texts.{then, as_text}
+use Rattle.print.proofs.Texts.{as_text}
 use Rattle.rules.specs.declared.Reason.{Reason}
 use Rattle.rules.specs.declared.CallRefusal.{CallRefusal}
-use Rattle.rules.specs.Print.{decimal, spaced}
+use Rattle.rules.specs.Print.{spaced}
 use Rattle.rules.specs.WhyPrint.{why_words}
+use Rattle.reasons.specs.Words.{refused_text}
 use Rattle.reasons.proofs.Parts.{refused_words}
 use Rattle.reasons.proofs.told.Goals as goal
 
@@ -15,4 +16,6 @@ returns-in-Ok c = as_text (sym (ap (λ (w : Result Reason CallRefusal). spaced (
 pub returns-in-Err : goal.returns-in-Err
 returns-in-Err c =
     let g = c.in-Err in
-    as_text (refused_words g.refusal ∙ sym (ap (λ (w : Result Reason CallRefusal). spaced (why_words w)) g.is)) (then c.words.ensures (as_text (ap decimal c.from.ensures) c.number.ensures))
+    as_text
+    (ap (λ k. refused_text k) c.from.ensures ∙ refused_words g.refusal ∙ sym (ap (λ (w : Result Reason CallRefusal). spaced (why_words w)) g.is))
+    c.refused.ensures

@@ -14,7 +14,7 @@ use Rattle.scheduler.specs.Steps.{choice_of, asked_of, activate_refusal, job_as,
 use Rattle.scheduler.proofs.Rows.{allowed_in}
 use Rattle.scheduler.proofs.Whole.{change_in}
 use Rattle.scheduler.proofs.Handed.{handed_shaped, handed_sorted, handed_room, hand_on}
-use Rattle.scheduler.proofs.Decided.{decided, asked_is, accepted_if, list_if, runs_if, reported_if}
+use Rattle.scheduler.proofs.Decided.{decided_as, asked_is, allowed_if, list_if, runs_if, reported_if}
 use Rattle.scheduler.proofs.activate.Goals as goal
 use Rattle.scheduler.proofs.activate.Goals.{After-activate_refusal-allowed, After-asked-new}
 
@@ -38,7 +38,7 @@ pub insert-requires : goal.insert-requires
 insert-requires c = (
   handed_shaped c.args.s c.requires,
   handed_sorted c.args.s c.requires,
-  λ t. handed_room c.args.s c.requires c.args.at c.args.task (accepted_if c.args.s (Activate c.args.at c.args.task) _ _ (allowed (goal.at.insert-requires c).After-activate_refusal-allowed) c.is_ok-accepted.ensures.value t),
+  λ t. handed_room c.args.s c.requires c.args.at c.args.task (allowed_if c.args.s (Activate c.args.at c.args.task) _ _ (allowed (goal.at.insert-requires c).After-activate_refusal-allowed) c.is_ok-accepted.ensures.value t),
 )
 
 pub returns : goal.returns
@@ -54,7 +54,7 @@ returns c =
     let job = c.job-job.result in
     let j : job ≡ job_as n (asked_of s.table c.args.at n).due (phase_of (is_first_in (job_as n (asked_of s.table c.args.at n).due Delayed) xs)) = c.job-job.ensures ∙ (λ i. job_as (q i).task (q i).due (c.from.ensures i)) ∙ ap (λ (b : Bool). job_as n (asked_of s.table c.args.at n).due (phase_of b)) f in
     hand_on s c.requires e _
-    (decided s c.requires e c.activate_refusal-allowed.result c.number_of.result ok (allowed (goal.at.returns c).After-activate_refusal-allowed) c.number_of.ensures c.is_ok-accepted.ensures.value c.args.at (change_in s e) (λ (l : Late). late_counted l s.monitor) refl _ _ _ _ _ _
+    (decided_as s c.requires e c.activate_refusal-allowed.result c.number_of.result ok (allowed (goal.at.returns c).After-activate_refusal-allowed) c.number_of.ensures c.is_ok-accepted.ensures.value c.args.at (change_in s e) (λ (l : Late). late_counted l s.monitor) refl _ _ _ _ _ _
     (record {
       time = c.moved-now.ensures;
       lates = c.newly_late-late.ensures;

@@ -15,7 +15,7 @@ use Rattle.scheduler.specs.Steps.{choice_of, settle_of, asked_of, chain_refusal,
 use Rattle.scheduler.proofs.Rows.{allowed_in}
 use Rattle.scheduler.proofs.Whole.{change_in}
 use Rattle.scheduler.proofs.Handed.{handed_shaped, handed_sorted, handed_short, hand_on, Ends, chain_ends}
-use Rattle.scheduler.proofs.Decided.{decided, asked_is, accepted_if, list_if, runs_if, leaves_if, settles_if, chain_if, tallied_if}
+use Rattle.scheduler.proofs.Decided.{decided_as, asked_is, allowed_if, list_if, runs_if, leaves_if, settles_if, chain_if, tallied_if}
 use Rattle.scheduler.proofs.chain.Goals as goal
 use Rattle.scheduler.proofs.chain.Goals.{After-asked-new, After-chain_refusal-allowed, After-is_ok-accepted}
 
@@ -33,7 +33,7 @@ allowed c =
 -- where the call is accepted a job ends
 ends : (c : After-is_ok-accepted) → c.is_ok-accepted.result ≡ true → Ends c.args.s c.args.at
 ends c t =
-    chain_ends c.args.s c.requires c.args.at c.args.task (accepted_if c.args.s (Chain c.args.at c.args.task) _ _ (allowed c.before.before) c.is_ok-accepted.ensures.value t)
+    chain_ends c.args.s c.requires c.args.at c.args.task (allowed_if c.args.s (Chain c.args.at c.args.task) _ _ (allowed c.before.before) c.is_ok-accepted.ensures.value t)
 
 pub chain_refusal-allowed-requires : goal.chain_refusal-allowed-requires
 chain_refusal-allowed-requires c = handed_shaped c.args.s c.requires
@@ -62,7 +62,7 @@ returns c =
     let j : job ≡ job_as n (asked_of s.table c.args.at n).due Delayed = c.job-job.ensures ∙ ap (λ (x : Activation). job_as x.task x.due Delayed) (new_is (goal.at.returns c).After-asked-new) in
     let l : c.front_with-lead.result ≡ lead_of (cond ok (insert_due job (drop 1 xs)) xs) = c.front_with-lead.ensures ∙ ap (lead_with ok job) c.front.ensures ∙ chain_if ok job xs (drop 1 xs) in
     hand_on s c.requires e _
-    (decided s c.requires e c.chain_refusal-allowed.result c.number_of.result ok (allowed (goal.at.returns c).After-chain_refusal-allowed) c.number_of.ensures c.is_ok-accepted.ensures.value c.args.at (change_in s e) (λ (x : Late). tallied_in s.table xs c.args.at (late_counted x s.monitor)) refl _ _ _ _ _ _
+    (decided_as s c.requires e c.chain_refusal-allowed.result c.number_of.result ok (allowed (goal.at.returns c).After-chain_refusal-allowed) c.number_of.ensures c.is_ok-accepted.ensures.value c.args.at (change_in s e) (λ (x : Late). tallied_in s.table xs c.args.at (late_counted x s.monitor)) refl _ _ _ _ _ _
     (record {
       time = c.moved-now.ensures;
       lates = c.newly_late-late.ensures;

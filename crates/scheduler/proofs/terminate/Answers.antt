@@ -11,14 +11,14 @@ use Rattle.jobs.specs.Listed.{view, release_first}
 use Rattle.scheduler.specs.Steps.{choice_of, settle_of, settled_in, late_counted, tallied_in}
 use Rattle.scheduler.proofs.Whole.{change_in}
 use Rattle.scheduler.proofs.Handed.{handed_shaped, handed_sorted, handed_short, hand_on, Ends, terminate_ends}
-use Rattle.scheduler.proofs.Decided.{decided, accepted_if, list_if, runs_if, leaves_if, settles_if, tallied_if}
+use Rattle.scheduler.proofs.Decided.{decided_as, allowed_if, list_if, runs_if, leaves_if, settles_if, tallied_if}
 use Rattle.scheduler.proofs.terminate.Goals as goal
 use Rattle.scheduler.proofs.terminate.Goals.{After-is_ok-accepted}
 
 -- where the call is accepted a job ends
 ends : (c : After-is_ok-accepted) → c.is_ok-accepted.result ≡ true → Ends c.args.s c.args.at
 ends c t =
-    terminate_ends c.args.s c.requires c.args.at (accepted_if c.args.s (Terminate c.args.at) _ _ c.terminate_refusal-allowed.ensures c.is_ok-accepted.ensures.value t)
+    terminate_ends c.args.s c.requires c.args.at (allowed_if c.args.s (Terminate c.args.at) _ _ c.terminate_refusal-allowed.ensures c.is_ok-accepted.ensures.value t)
 
 pub newly_late-late-requires : goal.newly_late-late-requires
 newly_late-late-requires c =
@@ -40,7 +40,7 @@ returns c =
     let ok = c.is_ok-accepted.result in
     let xs = view s.list in
     hand_on s c.requires e _
-    (decided s c.requires e c.terminate_refusal-allowed.result c.number_of.result ok c.terminate_refusal-allowed.ensures c.number_of.ensures c.is_ok-accepted.ensures.value c.args.at (change_in s e) (λ (l : Late). tallied_in s.table xs c.args.at (late_counted l s.monitor)) refl _ _ _ _ _ _
+    (decided_as s c.requires e c.terminate_refusal-allowed.result c.number_of.result ok c.terminate_refusal-allowed.ensures c.number_of.ensures c.is_ok-accepted.ensures.value c.args.at (change_in s e) (λ (l : Late). tallied_in s.table xs c.args.at (late_counted l s.monitor)) refl _ _ _ _ _ _
     (record {
       time = c.moved-now.ensures;
       lates = c.newly_late-late.ensures;

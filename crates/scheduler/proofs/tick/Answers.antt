@@ -5,7 +5,7 @@ use Rattle.rules.specs.declared.Late.{Late}
 use Rattle.scheduler.specs.Steps.{choice_of, late_counted}
 use Rattle.scheduler.proofs.Whole.{change_in}
 use Rattle.scheduler.proofs.Handed.{handed_shaped, handed_sorted, hand_on}
-use Rattle.scheduler.proofs.Decided.{decided, kept_if, none_if, reported_if}
+use Rattle.scheduler.proofs.Decided.{decided_as, kept_if, none_if, reported_if}
 use Rattle.scheduler.proofs.tick.Goals as goal
 
 pub newly_late-late-requires : goal.newly_late-late-requires
@@ -18,7 +18,7 @@ returns c =
     let e = Wait c.args.at in
     let ok = c.is_ok-accepted.result in
     hand_on s c.requires e _
-    (decided s c.requires e c.in_time-allowed.result c.number_of.result ok c.in_time-allowed.ensures c.number_of.ensures c.is_ok-accepted.ensures.value c.args.at (change_in s e) (λ (l : Late). late_counted l s.monitor) refl _ _ _ _ _ _
+    (decided_as s c.requires e c.in_time-allowed.result c.number_of.result ok c.in_time-allowed.ensures c.number_of.ensures c.is_ok-accepted.ensures.value c.args.at (change_in s e) (λ (l : Late). late_counted l s.monitor) refl _ _ _ _ _ _
     (record {
       time = c.moved-now.ensures;
       lates = c.newly_late-late.ensures;

@@ -5,7 +5,10 @@ use borrow.Author.Rules.{rules}
 use Rattle.std.specs.Prelude.{Ok, Err}
 use Rattle.rules.specs.declared.TapeRefusal.{TapeRefusal}
 use Rattle.rules.specs.declared.Unopened.{Unopened}
-use Rattle.rules.specs.declared.Unopened.TheVariants.{BadTape}
+use Rattle.rules.specs.declared.Unopened.TheVariants.{BadTable, BadTape}
+use Rattle.rules.specs.declared.Verdict.{Verdict}
+use Rattle.rules.specs.declared.Named.TheVariants.{NoneNamed}
+use Rattle.rules.specs.Table.{verdict}
 use Rattle.rules.specs.Number.{Read, bounded_at}
 use Rattle.rules.specs.Tape.{greatest_byte}
 use Rattle.rules.specs.Print.{count_above}
@@ -19,7 +22,8 @@ returns-then-tape-gt-MOST_BYTES c = opened_as_lem c.args.tape.now _ (sym (opens_
 pub returns-then-is_above : goal.returns-then-is_above
 returns-then-is_above c =
     let t = c.args.tape.now in
-    opened_as_lem t _ (sym (opens_above t c.if-tape-gt-MOST_BYTES.false (sym (ap count_above c.read_count.ensures) ∙ sym c.is_above.ensures ∙ c.if-is_above.true)))
+    let refused : c.into.result ≡ verdict 1 NoneNamed = search rules in
+    opened_as_lem t _ (ap (λ (v : Verdict). Err (BadTable v)) refused ∙ sym (opens_above t c.if-tape-gt-MOST_BYTES.false (sym (ap count_above c.read_count.ensures) ∙ sym c.is_above.ensures ∙ c.if-is_above.true)))
 
 pub returns-in_err-read : goal.returns-in_err-read
 returns-in_err-read c =
