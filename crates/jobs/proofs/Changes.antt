@@ -6,16 +6,15 @@ use mathlib.Core.List.{List, [], ◌∷◌, ◌++◌}
 use native.Mathlib.Nat.{not-suc-le-zero}
 use native.Mathlib.Omega.{arith}
 use borrow.Author.Tests.{lt-ltb}
-use lib.Dec.{ltb}
-use lib.ListN.{length, take, drop, get_or, replicate}
+use lib.ListN.{length, drop, replicate}
 use lib.Seq.{take-append_seam, drop-append-add}
 use Rattle.rules.specs.Words.{places}
 use Rattle.rules.specs.declared.Job.{Job}
 use Rattle.jobs.specs.declared.JobList.{JobList}
-use Rattle.jobs.specs.Listed.{blank_job, view, pack, Shaped, Sorted, goes_before, insert_due, release_first}
-use Rattle.jobs.specs.Inside.{aim_of, enter_at, slide, slide_at, led_if, leave_at, replace_at}
+use Rattle.jobs.specs.Listed.{blank_job, view, pack, Shaped, goes_before, insert_due, release_first, lead_of}
+use Rattle.jobs.specs.Inside.{enter_at, slide, slide_at, led}
 use Rattle.rules.proofs.Lists.{length_insert as inserted-length}
-use Rattle.jobs.proofs.Laid.{view_length, shaped_length}
+use Rattle.jobs.proofs.Laid.{view_length, view_pack}
 
 -- ---- a new job goes in at its place
 
@@ -48,22 +47,6 @@ replace_padded j x (y ∷ xs) bl = go (goes_before j y) (replace_padded j y xs b
     go true ih = refl
     go false ih = ap (λ (l : List Job). y ∷ l) ih
 
-led_some : (zs bl : List Job) → 0 < length zs → led_if true (zs ++ bl) ≡ release_first zs ++ bl
-unfolding release_first
-led_some [] bl h = absurd (not-suc-le-zero h)
-led_some (z ∷ zs) bl h = refl
-
--- the blank in the first place of no jobs is not
-led_rest : (zs bl : List Job) → led_if (ltb 1 (suc (length zs))) (zs ++ blank_job ∷ bl) ≡ release_first zs ++ blank_job ∷ bl
-unfolding release_first
-led_rest [] bl = refl
-led_rest (z ∷ zs) bl = rw (lt-ltb 1 (suc (suc (length zs))) (omega arith))
-
-length_release : (xs : List Job) → length (release_first xs) ≡ length xs
-unfolding release_first
-length_release [] = refl
-length_release (x ∷ xs) = refl
-
 -- ---- on a list that is laid out
 
 insert_packed : (j : Job) (xs : List Job) → length xs < places
@@ -76,92 +59,59 @@ insert_packed j xs h =
     let p : enter_at (length xs) j (xs ++ replicate (places - length xs) blank_job) ≡ insert_due j xs ++ replicate (places - length (insert_due j xs)) blank_job = rw (e, f) (enter_padded j xs ((places - 1) - length xs)) in
     λ i. record { jobs = p i; count = q i }
 
+-- the array once a job has been taken out of its first place, and j put in its own, among l.count jobs
+abbrev pub slid : (Job → Bool) → Job → JobList → List Job
+slid stop j l = slide_at stop l.count j 0 l.jobs
+
 remove_packed : (xs : List Job) → 0 < length xs → length xs ≤ places
-    → ◌≡◌ {A = JobList} (record { jobs = leave_at (pack xs).count blank_job (pack xs).jobs; count = (pack xs).count - 1 }) (pack (release_first (drop 1 xs)))
-unfolding pack leave_at slide_at
+    → ◌≡◌ {A = JobList} (record { jobs = slid (λ (y : Job). false) blank_job (pack xs); count = (pack xs).count - 1 }) (pack (drop 1 xs))
+unfolding pack slide_at
 remove_packed [] h m = absurd (not-suc-le-zero h)
 remove_packed (x ∷ xs) h m =
     let bl = replicate (places - suc (length xs)) blank_job in
-    let e : suc (length xs) - (0 + 1) ≡ length xs = omega arith in
-    let q : suc (length xs) - 1 ≡ length (release_first xs) = omega (arith, length_release xs) in
-    let f : places - length (release_first xs) ≡ suc (places - suc (length xs)) = omega (arith, length_release xs) in
-    let p : led_if (ltb 1 (suc (length xs))) (slide (λ (y : Job). false) (suc (length xs) - (0 + 1)) blank_job (x ∷ (xs ++ bl))) ≡ release_first xs ++ replicate (places - length (release_first xs)) blank_job = rw (e, f) (ap (led_if (ltb 1 (suc (length xs)))) (leave_padded x xs bl) ∙ led_rest xs bl) in
-    λ i. record { jobs = p i; count = q i }
+    let d : suc (length xs) - 1 ≡ length xs = omega arith in
+    let f : places - length xs ≡ suc (places - suc (length xs)) = omega arith in
+    let p : slide (λ (y : Job). false) (suc (length xs) - 1) blank_job (x ∷ (xs ++ bl)) ≡ xs ++ replicate (places - length xs) blank_job = rw (d, f) (leave_padded x xs bl) in
+    λ i. record { jobs = p i; count = d i }
 
 replace_packed : (j : Job) (xs : List Job) → 0 < length xs → length xs ≤ places
-    → ◌≡◌ {A = JobList} (record { jobs = replace_at (pack xs).count j (pack xs).jobs; count = (pack xs).count }) (pack (release_first (insert_due j (drop 1 xs))))
-unfolding pack replace_at slide_at
+    → ◌≡◌ {A = JobList} (record { jobs = slid (goes_before j) j (pack xs); count = (pack xs).count }) (pack (insert_due j (drop 1 xs)))
+unfolding pack slide_at
 replace_packed j [] h m = absurd (not-suc-le-zero h)
 replace_packed j (x ∷ xs) h m =
     let bl = replicate (places - suc (length xs)) blank_job in
-    let e : suc (length xs) - (0 + 1) ≡ length xs = omega arith in
-    let q : suc (length xs) ≡ length (release_first (insert_due j xs)) = omega (arith, length_release (insert_due j xs), length_insert j xs) in
-    let f : places - length (release_first (insert_due j xs)) ≡ places - suc (length xs) = omega arith in
-    let p : led_if (ltb 0 (suc (length xs))) (slide (goes_before j) (suc (length xs) - (0 + 1)) j (x ∷ (xs ++ bl))) ≡ release_first (insert_due j xs) ++ replicate (places - length (release_first (insert_due j xs))) blank_job = rw (e, f, lt-ltb 0 (suc (length xs)) (omega arith)) (ap (led_if true) (replace_padded j x xs bl) ∙ led_some (insert_due j xs) bl (omega (arith, length_insert j xs))) in
+    let d : suc (length xs) - 1 ≡ length xs = omega arith in
+    let q : suc (length xs) ≡ length (insert_due j xs) = sym (length_insert j xs) in
+    let p : slide (goes_before j) (suc (length xs) - 1) j (x ∷ (xs ++ bl)) ≡ insert_due j xs ++ replicate (places - length (insert_due j xs)) blank_job =
+    rw (d, ← q) (replace_padded j x xs bl) in
     λ i. record { jobs = p i; count = q i }
 
--- ---- a refused call
-
-stay_entered : (xs : List Job) → 0 < length xs → enter_at 0 (get_or xs 0 blank_job) xs ≡ xs
-unfolding enter_at insert_due
-stay_entered [] h = absurd (not-suc-le-zero h)
-stay_entered (x ∷ xs) h = refl
-
-stay_slid : (stop : Job → Bool) (xs : List Job) → 0 < length xs → slide_at stop 0 (get_or xs 0 blank_job) 0 xs ≡ xs
-unfolding slide_at slide
-stay_slid stop [] h = absurd (not-suc-le-zero h)
-stay_slid stop (x ∷ xs) h = refl
-
-stay_left : (xs : List Job) → 0 < length xs → leave_at 0 (get_or xs 0 blank_job) xs ≡ xs
-unfolding leave_at
-stay_left xs h = stay_slid (λ (x : Job). false) xs h
-
-stay_replaced : (xs : List Job) → 0 < length xs → replace_at 0 (get_or xs 0 blank_job) xs ≡ xs
-unfolding replace_at
-stay_replaced xs h = stay_slid (goes_before (get_or xs 0 blank_job)) xs h
+-- the first job is released
+led_packed : (xs : List Job) → led (pack xs) ≡ pack (release_first xs)
+unfolding pack led release_first
+led_packed [] = refl
+led_packed (x ∷ xs) = rw (lt-ltb 0 (suc (length xs)) (omega arith))
 
 -- ---- what the functions make
 
-module _ (l : JobList) (s : Shaped l) where
-  abbrev none : 0 < length l.jobs
-  none = omega (arith, shaped_length l s)
+pub insert_law : (l : JobList) → Shaped l → (j : Job) → l.count < places → ◌≡◌ {A = JobList} (record { jobs = enter_at l.count j l.jobs; count = l.count + 1 }) (pack (insert_due j (view l)))
+insert_law l s j h =
+    ap (λ (x : JobList). record { jobs = enter_at x.count j x.jobs; count = x.count + 1 }) s.blanks ∙ insert_packed j (view l) (omega (arith, view_length l s, h))
 
-  -- the same jobs, where the call is refused
-  same : (xs : List Job) (k : ℕ) → xs ≡ l.jobs → k ≡ l.count → ◌≡◌ {A = JobList} (record { jobs = xs; count = k }) (pack (view l))
-  same xs k e f = (λ i. record { jobs = e i; count = f i }) ∙ s.blanks
+-- m is the list once the first job has left, and ys the jobs in it
+module _ (m : JobList) (ys : List Job) (e : m ≡ pack ys) where
+  pub led_law : led m ≡ pack (release_first ys)
+  led_law = ap led e ∙ led_packed ys
 
-  pub aim_less : (j : Job) (b : Bool) → (b ≡ true → l.count < places) → (aim_of l j b).many < places
-  aim_less j true h = h refl
-  aim_less j false h = omega arith
+  pub lead_law : lead_of (view m) ≡ lead_of ys
+  lead_law = ap (λ (l : JobList). lead_of (view l)) e ∙ ap lead_of (view_pack ys)
 
-  pub aim_most : (j : Job) (b : Bool) → (aim_of l j b).many ≤ places
-  aim_most j true = s.small
-  aim_most j false = omega arith
+pub remove_law : (l : JobList) → Shaped l → 0 < l.count → ◌≡◌ {A = JobList} (record { jobs = slid (λ (y : Job). false) blank_job l; count = l.count - 1 }) (pack (drop 1 (view l)))
+remove_law l s h =
+    ap (λ (x : JobList). record { jobs = slid (λ (y : Job). false) blank_job x; count = x.count - 1 }) s.blanks
+    ∙ remove_packed (view l) (omega (arith, view_length l s, h)) (omega (arith, view_length l s, s.small))
 
-  -- those that a call works among are in order, if the list is
-  pub aim_sorted : (j : Job) (b : Bool) → Sorted (view l) → Sorted (take (aim_of l j b).many l.jobs)
-  aim_sorted j true o = o
-  aim_sorted j false o = tt
-
-  pub insert_law : (j : Job) (b : Bool) (k : ℕ) → (b ≡ true → l.count < places) → cond b (l.count + 1) l.count ≡ k
-      → ◌≡◌ {A = JobList} (record { jobs = enter_at (aim_of l j b).many (aim_of l j b).put l.jobs; count = k }) (pack (cond b (insert_due j (view l)) (view l)))
-  insert_law j true k h e =
-      let m : length (view l) < places = omega (arith, view_length l s, h refl) in
-      ap (λ n. record { jobs = enter_at l.count j l.jobs; count = n }) (sym e)
-      ∙ ap (λ (x : JobList). record { jobs = enter_at x.count j x.jobs; count = x.count + 1 }) s.blanks ∙ insert_packed j (view l) m
-  insert_law j false k h e = same _ k (stay_entered l.jobs none) (sym e)
-
-  pub remove_law : (b : Bool) (k : ℕ) → (b ≡ true → 0 < l.count) → cond b (l.count - 1) l.count ≡ k
-      → ◌≡◌ {A = JobList} (record { jobs = leave_at (aim_of l blank_job b).many (aim_of l blank_job b).put l.jobs; count = k }) (pack (cond b (release_first (drop 1 (view l))) (view l)))
-  remove_law true k h e =
-      ap (λ n. record { jobs = leave_at l.count blank_job l.jobs; count = n }) (sym e)
-      ∙ ap (λ (x : JobList). record { jobs = leave_at x.count blank_job x.jobs; count = x.count - 1 }) s.blanks
-      ∙ remove_packed (view l) (omega (arith, view_length l s, h refl)) (omega (arith, view_length l s, s.small))
-  remove_law false k h e = same _ k (stay_left l.jobs none) (sym e)
-
-  pub replace_law : (j : Job) (b : Bool) → (b ≡ true → 0 < l.count)
-      → ◌≡◌ {A = JobList} (record { jobs = replace_at (aim_of l j b).many (aim_of l j b).put l.jobs; count = l.count }) (pack (cond b (release_first (insert_due j (drop 1 (view l)))) (view l)))
-  replace_law j true h =
-      ap (λ (x : JobList). record { jobs = replace_at x.count j x.jobs; count = x.count }) s.blanks
-      ∙ replace_packed j (view l) (omega (arith, view_length l s, h refl)) (omega (arith, view_length l s, s.small))
-  replace_law j false h = same _ l.count (stay_replaced l.jobs none) refl
+pub replace_law : (l : JobList) → Shaped l → (j : Job) → 0 < l.count → ◌≡◌ {A = JobList} (record { jobs = slid (goes_before j) j l; count = l.count }) (pack (insert_due j (drop 1 (view l))))
+replace_law l s j h =
+    ap (λ (x : JobList). record { jobs = slid (goes_before j) j x; count = x.count }) s.blanks
+    ∙ replace_packed j (view l) (omega (arith, view_length l s, h)) (omega (arith, view_length l s, s.small))

@@ -6,16 +6,16 @@ use mathlib.Core.List.{List, ◌∷◌, ◌++◌, append_assoc}
 use native.Mathlib.Nat.{not-suc-le-zero}
 use native.Mathlib.Numerals.{add-one}
 use native.Mathlib.Omega.{arith}
-use borrow.Author.Tests.{ltb-true, ltb-false, le-ltb, lt-ltb}
+use borrow.Author.Tests.{ltb-true, ltb-false, lt-ltb}
 use lib.ListN.{length, take, drop, set, get_or, length-take, drop_of_length-le}
 use lib.Seq.{drop-cons, take-suc, take-suc-set, drop-set-lt, append_snoc, set_split, take-set-le, take-take, get_or-take, drop_at, length-take-le}
 use Rattle.rules.specs.declared.Job.{Job}
 use Rattle.rules.specs.Search.{from_back}
 use Rattle.rules.proofs.Searched.{Orders, back_last, same_place, insert_at}
 use Rattle.jobs.specs.Listed.{blank_job, goes_before, Sorted, insert_due}
-use Rattle.jobs.specs.Inside.{enter_at, slide, slide_at, led_if, leave_at, replace_at}
+use Rattle.jobs.specs.Inside.{enter_at, slide, slide_at}
 
--- ---- a new job: turns of `entered`
+-- ---- a new job: turns of `enter`
 
 -- behind the jobs there is nothing to move yet
 pub enter_start : (xs : List Job) (n : ℕ) → drop (suc n) xs ≡ drop n (take n xs) ++ drop (suc n) xs
@@ -94,7 +94,7 @@ enter_end xs out j n i h m s t e =
     ∙ ap (λ k. (take k ys ++ j ∷ drop k ys) ++ r) (e ∙ same_place goes_before orders j ys s)
     ∙ ap (λ (l : List Job). l ++ r) (sym (insert_at goes_before j ys))
 
--- ---- the first job leaves: turns of `slid`
+-- ---- the first job leaves: turns of `slide`
 
 pub slide_step : (stop : Job → Bool) (out : List Job) (j : Job) (n i k : ℕ) → i + 1 ≡ k → k < n → n ≤ length out → stop (get_or out k blank_job) ≡ false
     → slide_at stop n j k (set out i (get_or out k blank_job)) ≡ slide_at stop n j i out
@@ -124,20 +124,3 @@ slide_stop stop out j n i k p h m e =
     let g : suc i < length out = omega arith in
     let w : stop (get_or out (suc i) blank_job) ≡ true = rw q at e in
     set_split out i j l ∙ rw (add-one, f, drop-cons out i blank_job l, drop-cons out (suc i) blank_job g, w) refl
-
--- the first of those that are left is released, if there is one
-pub leave_led : (n : ℕ) (j : Job) (xs : List Job) → 1 < n → led_if true (slide_at (λ (x : Job). false) n j 0 xs) ≡ leave_at n j xs
-unfolding leave_at
-leave_led n j xs h = rw (lt-ltb 1 n h)
-
-pub leave_none : (n : ℕ) (j : Job) (xs : List Job) → n ≤ 1 → slide_at (λ (x : Job). false) n j 0 xs ≡ leave_at n j xs
-unfolding leave_at
-leave_none n j xs h = rw (le-ltb 1 n h)
-
-pub replace_led : (n : ℕ) (j : Job) (xs : List Job) → 0 < n → led_if true (slide_at (goes_before j) n j 0 xs) ≡ replace_at n j xs
-unfolding replace_at
-replace_led n j xs h = rw (lt-ltb 0 n h)
-
-pub replace_none : (n : ℕ) (j : Job) (xs : List Job) → n ≤ 0 → slide_at (goes_before j) n j 0 xs ≡ replace_at n j xs
-unfolding replace_at
-replace_none n j xs h = rw (le-ltb 0 n h)

@@ -1,16 +1,11 @@
 -- What the functions inside do with the array. No other crate's promise names it. Assumes nothing.
-use Rattle.std.specs.Prelude.{ℕ, zero, suc, ◌+◌, ◌-◌, Bool, false, cond, List, [], ◌∷◌, ◌++◌, ltb, take, drop, set, get_or}
+use Rattle.std.specs.Prelude.{ℕ, zero, suc, ◌+◌, ◌-◌, Bool, cond, List, [], ◌∷◌, ◌++◌, ltb, take, drop, set, get_or}
 use Rattle.rules.specs.declared.Job.{Job}
 use Rattle.rules.specs.declared.Tick.{Tick}
 use Rattle.rules.specs.declared.Late.{Late}
 use Rattle.rules.specs.Late.{is_past}
 use Rattle.jobs.specs.declared.JobList.{JobList}
-use Rattle.jobs.specs.declared.Aim.{Aim}
-use Rattle.jobs.specs.Listed.{blank_job, goes_before, insert_due, released_job}
-
--- a refused call works among no jobs, and puts the job in the first place where it stands
-abbrev pub aim_of : JobList → Job → Bool → Aim
-aim_of l j b = cond b (record { many = l.count; put = j }) (record { many = 0; put = get_or l.jobs 0 blank_job })
+use Rattle.jobs.specs.Listed.{blank_job, insert_due, released_job}
 
 -- ---- a new job
 
@@ -35,11 +30,9 @@ slide_at stop n j i xs = take i xs ++ slide stop (n - (i + 1)) j (drop i xs)
 abbrev pub led_if : Bool → List Job → List Job
 led_if b xs = cond b (set xs 0 (released_job (get_or xs 0 blank_job))) xs
 
-unfoldable pub leave_at : ℕ → Job → List Job → List Job
-leave_at n j xs = led_if (ltb 1 n) (slide_at (λ (x : Job). false) n j 0 xs)
-
-unfoldable pub replace_at : ℕ → Job → List Job → List Job
-replace_at n j xs = led_if (ltb 0 n) (slide_at (goes_before j) n j 0 xs)
+-- and so in a list of jobs, where there is one
+unfoldable pub led : JobList → JobList
+led l = record { jobs = led_if (ltb 0 l.count) l.jobs; count = l.count }
 
 -- ---- late jobs
 

@@ -1,12 +1,12 @@
-// The list of pending jobs by value: an array of jobs in the order of the list, and a count.
+// The list of pending jobs: an array of jobs in the order of the list, and a count.
 #![tactic(auto)]
 
-ghost use Rattle.std.specs.Prelude.{◌≡◌, [], Bool, true, cond, ◌≤◌, ◌<◌, take, drop};
+ghost use Rattle.std.specs.Prelude.{◌≡◌, [], Bool, ◌≤◌, ◌<◌, take, drop};
 ghost use Rattle.std.specs.List.{count_by, find};
 ghost use Rattle.rules.specs.Words.{places, only};
 ghost use Rattle.rules.specs.declared.Job.{Job};
-ghost use Rattle.jobs.specs.Listed.{blank_job, is_earlier, goes_before, view, pack, Shaped, Sorted, is_first_in, insert_due, released_job, release_first, is_of, lead_of, lead_with, pending_of, first_in, late_in, newly_late_in};
-ghost use Rattle.jobs.specs.Inside.{aim_of, enter_at, slide_at, leave_at, replace_at, late_step};
+ghost use Rattle.jobs.specs.Listed.{blank_job, is_earlier, goes_before, view, pack, Shaped, Sorted, is_first_in, insert_due, released_job, release_first, is_of, lead_of, pending_of, first_in, late_in, newly_late_in};
+ghost use Rattle.jobs.specs.Inside.{enter_at, slide_at, led, late_step};
 
 use rules::{Job, Late, PLACES, Phase, Tick};
 
@@ -41,87 +41,47 @@ fn goes_before(job: Job, other: Job) -> bool
     is_earlier(job, other)
 }
 
-// ---- what changes a list: nothing is tested behind a change, so that the array is copied once in and once out
-
-// Where a call works in the list: among how many jobs, and what it puts there.
-#[derive(Clone, Copy)]
-struct Aim {
-    many: usize,
-    put: Job,
-}
+// ---- what changes a list, in place
 
 // A new job walks in from the back: those that it goes before go one place back, up to the first that it doesn't go before. In a list that is in order that is its place.
-fn entered(jobs: [Job; PLACES], aim: Aim) -> [Job; PLACES]
-    requires { (aim.many < places) × Sorted (take aim.many jobs) }
-    ensures { result ≡ enter_at aim.many aim.put jobs }
+fn enter(jobs: &mut [Job; PLACES], many: usize, job: Job)
+    requires { (many < places) × Sorted (take many jobs.old) }
+    ensures { jobs.new ≡ enter_at many job jobs.old }
 {
-    let mut out = jobs;
-    let job = aim.put;
-    let mut place = aim.many;
-    for i in (0..aim.many).rev() {
-        let other = out[i];
+    let mut place = many;
+    for i in (0..many).rev() {
+        let other = jobs[i];
         if !goes_before(job, other) {
             break;
         }
-        out[place] = other;
+        jobs[place] = other;
         place = i;
     }
-    out[place] = job;
-    out
-}
-
-// A job is released.
-fn released(job: Job) -> Job
-    ensures { result ≡ released_job job }
-{
-    Job {
-        phase: Phase::Released,
-        ..job
-    }
+    jobs[place] = job;
 }
 
 // The first job leaves, and what is put in goes where the walk from the front stops: the others up to there go one place up.
-fn slid<F: Fn(Job) -> bool>(jobs: [Job; PLACES], aim: Aim, stops: F) -> [Job; PLACES]
-    requires { (aim.many ≤ places) × F.IsAlwaysCallable stops }
-    ensures { (stop : Job → Bool) → ((x : Job) (b : Bool) → F.post stops x b → b ≡ stop x) → result ≡ slide_at stop aim.many aim.put 0 jobs }
+fn slide<F: Fn(Job) -> bool>(jobs: &mut [Job; PLACES], many: usize, put: Job, stops: F)
+    requires { (many ≤ places) × F.IsAlwaysCallable stops }
+    ensures { (stop : Job → Bool) → ((x : Job) (b : Bool) → F.post stops x b → b ≡ stop x) → jobs.new ≡ slide_at stop many put 0 jobs.old }
 {
-    let mut out = jobs;
     let mut place = 0;
-    for i in 1..aim.many {
-        let next = out[i];
+    for i in 1..many {
+        let next = jobs[i];
         if stops(next) {
             break;
         }
-        out[place] = next;
+        jobs[place] = next;
         place = i;
     }
-    out[place] = aim.put;
-    out
+    jobs[place] = put;
 }
 
-// The first job leaves: the others go one place up, and the new first one is released.
-fn left(jobs: [Job; PLACES], aim: Aim) -> [Job; PLACES]
-    requires { aim.many ≤ places }
-    ensures { result ≡ leave_at aim.many aim.put jobs }
+// A job is released.
+fn release(job: &mut Job)
+    ensures { job.new ≡ released_job job.old }
 {
-    let mut out = slid(jobs, aim, |_| false);
-    if 1 < aim.many {
-        out[0] = released(out[0]);
-    }
-    out
-}
-
-// The first job leaves and a new one comes: those that it doesn't go before have to go one place up, so it walks in from the front; the new first one is released.
-fn replaced(jobs: [Job; PLACES], aim: Aim) -> [Job; PLACES]
-    requires { aim.many ≤ places }
-    ensures { result ≡ replace_at aim.many aim.put jobs }
-{
-    let job = aim.put;
-    let mut out = slid(jobs, aim, |next| goes_before(job, next));
-    if 0 < aim.many {
-        out[0] = released(out[0]);
-    }
-    out
+    job.phase = Phase::Released;
 }
 
 impl JobList {
@@ -135,61 +95,48 @@ impl JobList {
         }
     }
 
-    // A refused call works among no jobs, and puts the job in the first place where it stands. So `accepted` is a flag and no Option of the job: one walk and one copy serve both.
-    fn aimed(&self, job: Job, accepted: bool) -> Aim
-        ensures { result ≡ aim_of self.now job accepted }
+    // A new job goes in at its place.
+    pub fn insert(&mut self, job: Job)
+        requires { Shaped self.old × Sorted (view self.old) × (self.old.count < places) }
+        ensures { self.new ≡ pack (insert_due job (view self.old)) }
     {
-        if accepted {
-            return Aim {
-                many: self.count,
-                put: job,
-            };
-        }
-        let first = self.jobs[0];
-        Aim {
-            many: 0,
-            put: first,
-        }
+        enter(&mut self.jobs, self.count, job);
+        self.count += 1;
     }
 
-    // A new job goes in at its place. A refused call leaves the list as it is; so below.
-    pub fn insert(self, job: Job, accepted: bool) -> JobList
-        requires { Shaped self × Sorted (view self) × (accepted ≡ true → self.count < places) }
-        ensures { result ≡ pack (cond accepted (insert_due job (view self)) (view self)) }
+    // The first job leaves: the others go one place up, and the new first one is released. It is given as it came.
+    pub fn remove_first(&mut self) -> Option<Job>
+        requires { Shaped self.old × (0 < self.old.count) }
+        ensures { (self.new ≡ pack (release_first (drop 1 (view self.old)))) × (result ≡ lead_of (drop 1 (view self.old))) }
     {
-        let aim = self.aimed(job, accepted);
-        let n = self.count;
-        let count = if accepted { n + 1 } else { n };
-        JobList {
-            jobs: entered(self.jobs, aim),
-            count,
-        }
+        slide(&mut self.jobs, self.count, blank(), |_| false);
+        self.count -= 1;
+        self.release_first()
     }
 
-    // The first job leaves, and the new first one is released.
-    pub fn remove_first(self, accepted: bool) -> JobList
-        requires { Shaped self × (accepted ≡ true → 0 < self.count) }
-        ensures { result ≡ pack (cond accepted (release_first (drop 1 (view self))) (view self)) }
+    // The first job leaves and a new one comes: those that it doesn't go before have to go one place up, so it walks in from the front; the new first one is released. It is given as it came.
+    pub fn replace_first(&mut self, job: Job) -> Option<Job>
+        requires { Shaped self.old × (0 < self.old.count) }
+        ensures { (self.new ≡ pack (release_first (insert_due job (drop 1 (view self.old))))) × (result ≡ lead_of (insert_due job (drop 1 (view self.old)))) }
     {
-        let aim = self.aimed(blank(), accepted);
-        let n = self.count;
-        let count = if accepted { n - 1 } else { n };
-        JobList {
-            jobs: left(self.jobs, aim),
-            count,
-        }
+        slide(
+            &mut self.jobs,
+            self.count,
+            job,
+            |next| goes_before(job, next),
+        );
+        self.release_first()
     }
 
-    // The first job leaves, a new one goes in at its place, and the new first one is released.
-    pub fn replace_first(self, job: Job, accepted: bool) -> JobList
-        requires { Shaped self × (accepted ≡ true → 0 < self.count) }
-        ensures { result ≡ pack (cond accepted (release_first (insert_due job (drop 1 (view self)))) (view self)) }
+    // The first job, where there is one, is released. It is given as it came.
+    fn release_first(&mut self) -> Option<Job>
+        ensures { (self.new ≡ led self.old) × (result ≡ lead_of (view self.old)) }
     {
-        let aim = self.aimed(job, accepted);
-        JobList {
-            jobs: replaced(self.jobs, aim),
-            count: self.count,
+        let first = self.front();
+        if 0 < self.count {
+            release(&mut self.jobs[0]);
         }
+        first
     }
 
     // ---- what is asked of a list
@@ -202,23 +149,14 @@ impl JobList {
         &self.jobs[..self.count]
     }
 
-    // The job that leads; where the first job leaves, the one behind it.
-    pub fn front(&self, leaves: bool) -> Option<Job>
-        ensures { result ≡ lead_of (cond leaves (drop 1 (view self.now)) (view self.now)) }
+    // The job that leads.
+    pub fn front(&self) -> Option<Job>
+        ensures { result ≡ lead_of (view self.now) }
     {
-        let n = self.count;
-        if leaves {
-            if n <= 1 {
-                return None;
-            }
-            let job = self.jobs[1];
-            return Some(job);
-        }
-        if n == 0 {
+        if self.count == 0 {
             return None;
         }
-        let job = self.jobs[0];
-        Some(job)
+        Some(self.jobs[0])
     }
 
     // Whether a new job would be first.
@@ -305,24 +243,6 @@ fn find_of(jobs: &[Job], task: u8) -> Option<Job>
     ensures { result ≡ find (is_of task) jobs.now }
 {
     jobs.iter().copied().find(|job| task == job.task)
-}
-
-// The job that leads where a new one enters; a flag, since a refused call asks, too, and nothing enters then.
-pub fn front_with(lead: Option<Job>, job: Job, enters: bool) -> Option<Job>
-    ensures { result ≡ lead_with enters job lead }
-{
-    if !enters {
-        return lead;
-    }
-    match lead {
-        None => Some(job),
-        Some(other) => {
-            if goes_before(job, other) {
-                return Some(job);
-            }
-            Some(other)
-        }
-    }
 }
 
 // No late jobs.

@@ -1,5 +1,5 @@
 -- Document 01, "What a call returns": how the counts are kept by value. Assumes nothing.
-use Rattle.std.specs.Prelude.{ℕ, List, take, Option, Some, None}
+use Rattle.std.specs.Prelude.{ℕ, List, take}
 use Rattle.rules.specs.declared.Late.{Late}
 use Rattle.rules.specs.declared.Tally.{Tally}
 use Rattle.rules.specs.Counts.{ended_more, on_task}
@@ -14,7 +14,6 @@ counts c = record { tallies = c }
 abbrev pub tasks_of : Late → List ℕ
 tasks_of l = take l.count l.tasks
 
--- an ended job counted for its task, if there is one
-abbrev pub with_end : Option Ended → List Tally → List Tally
-with_end None c = c
-with_end (Some e) c = on_task e.task (ended_more e.response) c
+-- an ended job counted for its task
+abbrev pub with_end : Ended → List Tally → List Tally
+with_end e c = on_task e.task (ended_more e.response) c

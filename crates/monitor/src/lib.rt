@@ -64,32 +64,26 @@ impl Monitor {
         }
     }
 
-    // The newly late jobs counted, each for its task.
-    pub fn with_late(self, late: Late) -> Monitor
-        ensures { result ≡ counts (with_late (tasks_of late) self.tallies) }
+    // The newly late jobs are counted, each for its task.
+    pub fn count_late(&mut self, late: Late)
+        ensures { self.new ≡ counts (with_late (tasks_of late) self.old.tallies) }
     {
         let n = (late.count as usize).min(PLACES);
-        let mut tallies = self.tallies;
         for task in &late.tasks[..n] {
             let t = *task as usize;
             if t < PLACES {
-                tallies[t] = late_more(tallies[t]);
+                self.tallies[t] = late_more(self.tallies[t]);
             }
         }
-        Monitor { tallies }
     }
 
-    // A job ended; where none did, nothing is counted.
-    pub fn with_ended(self, ended: Option<Ended>) -> Monitor
-        ensures { result ≡ counts (with_end ended self.tallies) }
+    // An ended job is counted.
+    pub fn count_ended(&mut self, ended: Ended)
+        ensures { self.new ≡ counts (with_end ended self.old.tallies) }
     {
-        let mut tallies = self.tallies;
-        if let Some(job) = ended {
-            let t = job.task as usize;
-            if t < PLACES {
-                tallies[t] = ended_more(tallies[t], job.response);
-            }
+        let t = ended.task as usize;
+        if t < PLACES {
+            self.tallies[t] = ended_more(self.tallies[t], ended.response);
         }
-        Monitor { tallies }
     }
 }

@@ -11,7 +11,6 @@ use Rattle.rules.specs.declared.Job.{Job as Entry}
 use Rattle.rules.specs.declared.Tick.{Tick}
 use Rattle.rules.specs.declared.Line.{Line}
 use Rattle.rules.specs.declared.Tally.{Tally}
-use Rattle.rules.specs.declared.Late.{Late}
 use Rattle.rules.specs.declared.Call.{Call}
 use Rattle.rules.specs.declared.Call.TheVariants.{Wait, Activate, Terminate, Chain}
 use Rattle.rules.specs.declared.KernelCall.TheVariants.{NoCall}
@@ -38,7 +37,7 @@ use Rattle.monitor.specs.Tallies.{counts, tasks_of}
 use Rattle.scheduler.specs.declared.State.{State}
 use Rattle.scheduler.specs.declared.Stepped.{Stepped}
 use Rattle.scheduler.specs.State.{kept, state_of, told}
-use Rattle.scheduler.specs.Steps.{Change, choice_in, asked_of, entered_in, settled_in, chained_in, late_counted, tallied_in, refused_of, accepted_of}
+use Rattle.scheduler.specs.Steps.{Change, choice_in, asked_of, entered_in, settled_in, chained_in, late_of, late_counted, tallied_in, refused_of, accepted_of}
 use Rattle.scheduler.proofs.Back.{line_is}
 use Rattle.scheduler.proofs.Parts.{kept_marked, drop_is, choice_is, late_is, change_of, entered_is, settled_is, chained_is, ended_is}
 use Rattle.rules.specs.Statement.{first_task, NothingRuns}
@@ -49,9 +48,6 @@ change_in s (Wait t) = record { list = s.list; call = NoCall }
 change_in s (Activate t n) = entered_in n (asked_of s.table t n).due (view s.list)
 change_in s (Terminate t) = settled_in (drop 1 (view s.list))
 change_in s (Chain t n) = chained_in n (asked_of s.table t n).due (drop 1 (view s.list))
-
-abbrev pub late_of : State → Tick → Late
-late_of s t = newly_late_in s.last t (view s.list)
 
 -- where no job ends, and where the first one does
 abbrev pub moved_of : State → Tick → Change → Stepped

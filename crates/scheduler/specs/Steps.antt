@@ -11,6 +11,7 @@ use Rattle.rules.specs.declared.KernelCall.TheVariants.{NoCall, ActivateTask, Ch
 use Rattle.rules.specs.declared.CallRefusal.{CallRefusal}
 use Rattle.rules.specs.declared.CallRefusal.TheVariants.{NoJob, NoTask, LimitReached, BadTick, DueBeyond, NoPlace}
 use Rattle.rules.specs.Answers.{Choice, runs_as, phase_of}
+use Rattle.rules.specs.declared.Answer.{Answer}
 use Rattle.rules.specs.declared.Late.{Late}
 use Rattle.rules.specs.declared.Reason.{Reason}
 use Rattle.rules.specs.declared.Reason.TheVariants.{NonePending, ItRuns, Earlier, ThereFirst}
@@ -20,9 +21,8 @@ use Rattle.ticks.specs.Ticks.{sum, is_beyond, response_by}
 use Rattle.table.specs.Lines.{TaskTable}
 use Rattle.table.specs.Lines.{line_at}
 use Rattle.jobs.specs.declared.JobList.{JobList}
-use Rattle.jobs.specs.Listed.{view, pack, is_earlier, is_first_in, insert_due, first_in, release_first, lead_of, pending_of, late_in}
+use Rattle.jobs.specs.Listed.{view, pack, is_earlier, is_first_in, insert_due, first_in, release_first, lead_of, pending_of, late_in, newly_late_in}
 use Rattle.monitor.specs.declared.Monitor.{Monitor}
-use Rattle.monitor.specs.declared.Ended.{Ended}
 use Rattle.monitor.specs.Tallies.{counts, tasks_of}
 use Rattle.scheduler.specs.declared.State.{State}
 use Rattle.scheduler.specs.declared.Stepped.{Stepped}
@@ -149,10 +149,6 @@ reason_of n (Some a) (Some r) =
 pub record Short (t : TaskTable) : Type 0 where
   pub deadlines : (n : ℕ) → (line_at t.lines n).deadline.0 ≤ 1000000000
 
--- a job of task n that ends, with its response, where the call is accepted
-abbrev pub ended_if : Bool → ℕ → ℕ → Option Ended
-ended_if accepted n k = cond accepted (Some (record { task = n; response = k })) None
-
 -- the response of a job that ends at a tick
 unfoldable pub response_in : TaskTable → Entry → Tick → ℕ
 response_in t x at = response_by at x.due (line_at t.lines x.task).deadline
@@ -165,7 +161,28 @@ late_counted l c = counts (with_late (tasks_of l) c.tallies)
 unfoldable pub tallied_in : TaskTable → List Entry → Tick → Monitor → Monitor
 tallied_in t xs at c = counts (on_task (first_in xs).task (ended_more (response_in t (first_in xs) at)) c.tallies)
 
+-- the newly late jobs at tick t
+abbrev pub late_of : State → Tick → Late
+late_of s t = newly_late_in s.last t (view s.list)
+
+-- time moves to tick t: they are counted; and the first job, if it ends
+abbrev pub reported_at : Tick → State → State
+reported_at t s = record { table = s.table; last = t; list = s.list; monitor = late_counted (late_of s t) s.monitor }
+
+abbrev pub ended_at : Tick → State → State
+ended_at t s =
+    record {
+      table = s.table;
+      last = t;
+      list = s.list;
+      monitor = tallied_in s.table (view s.list) t (late_counted (late_of s t) s.monitor);
+    }
+
 -- ---- the whole
+
+-- the answer by the state that a call leaves: number k, the running job, kernel call c, late jobs l
+abbrev pub answer_of : State → ℕ → KernelCall → Late → Answer
+answer_of s k c l = record { result = k; running = choice_in (view s.list); call = c; late = l }
 
 -- a refused call: number k, the unchanged running job, no kernel call, no late job
 unfoldable pub refused_of : State → ℕ → Stepped

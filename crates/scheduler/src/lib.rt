@@ -1,22 +1,20 @@
 // The scheduler by value: the check that hands out a state, and the calls. Each promises what the rule-book gives.
 #![tactic(auto)]
 
-ghost use Rattle.std.specs.Prelude.{◌≡◌, ◌≤◌, true, cond};
+ghost use Rattle.std.specs.Prelude.{◌≡◌, ◌≤◌, []};
 ghost use Rattle.rules.specs.declared.Call.TheVariants.{Wait, Activate, Terminate, Chain};
-ghost use Rattle.rules.specs.declared.Phase.TheVariants.{Delayed};
 ghost use Rattle.rules.specs.declared.KernelCall.TheVariants.{NoCall};
-ghost use Rattle.ticks.specs.Ticks.{response_by};
-ghost use Rattle.jobs.specs.Listed.{Shaped};
-ghost use Rattle.rules.specs.Answers.{result_number};
+ghost use Rattle.jobs.specs.Listed.{Shaped, Sorted, view, late_in};
+ghost use Rattle.rules.specs.Answers.{call_number};
 ghost use Rattle.rules.specs.Table.{greatest};
-ghost use Rattle.scheduler.specs.Steps.{fresh_of, choice_of, asked_by, in_time, some_job, known, below_limit, some_place, in_reach, activate_refusal, terminate_refusal, chain_refusal, job_as, entry_call, settle_of, reason_of, ended_if};
+ghost use Rattle.scheduler.specs.Steps.{fresh_of, choice_in, asked_of, in_time, some_job, known, below_limit, some_place, in_reach, activate_refusal, terminate_refusal, chain_refusal, job_as, entry_call, settle_of, reason_of, Short, late_of, reported_at, ended_at, answer_of};
 ghost use Rattle.scheduler.specs.State.{Handed, CheckGives, CallGives, why_of};
 ghost use Rattle.scheduler.specs.Claims.{Claims};
 
 use jobs::JobList;
 use monitor::{Ended, Monitor};
 use rules::{
-    Answer, Call, CallRefusal, Job, KernelCall, Line, PLACES, Phase, Reason, Running, Tick, Verdict,
+    Answer, Call, CallRefusal, Job, KernelCall, Late, PLACES, Phase, Reason, Running, Tick, Verdict,
 };
 use table::TaskTable;
 
@@ -83,120 +81,84 @@ fn fresh(table: TaskTable) -> State
     }
 }
 
-// ---- the calls: first all that is answered is decided, on numbers; then the list and the tallies are changed. A refused call goes the same way, and changes nothing.
+// ---- the calls: a refused one is answered at once; an accepted one changes the state in place
 
 // Tick: time moves; no kernel call.
-pub fn tick(s: State, at: Tick) -> Stepped
+pub fn tick(mut s: State, at: Tick) -> Stepped
     requires { Handed s }
     ensures { CallGives s (Wait at) result }
 {
-    let allowed = in_time(s.last, at);
-    let accepted = allowed.is_ok();
-    let now = moved(s.last, at, accepted);
-    let late = s.list.newly_late(s.last, now);
-    let lead = s.list.front(false);
-    let answer = Answer {
-        result: number_of(allowed),
-        running: running(lead),
-        call: KernelCall::NoCall,
-        late,
-    };
-    let state = State {
-        table: s.table,
-        last: now,
-        list: s.list,
-        monitor: s.monitor.with_late(late),
-    };
-    Stepped { state, answer }
+    if let Err(refusal) = in_time(s.last, at) {
+        return Stepped {
+            answer: s.refused(refusal),
+            state: s,
+        };
+    }
+    let late = s.report(at);
+    Stepped {
+        answer: s.accepted(KernelCall::NoCall, late),
+        state: s,
+    }
 }
 
 // Activate: a new job of the task goes into the list, and is released if it is first.
-pub fn activate(s: State, at: Tick, task: u8) -> Stepped
+pub fn activate(mut s: State, at: Tick, task: u8) -> Stepped
     requires { Handed s }
     ensures { CallGives s (Activate at task) result }
 {
-    let line = table::line_of(s.table, task);
-    let new = asked(line, at, task);
-    let allowed = activate_refusal(&s, new);
-    let accepted = allowed.is_ok();
-    let now = moved(s.last, at, accepted);
-    let late = s.list.newly_late(s.last, now);
+    let new = s.asked(at, task);
+    if let Err(refusal) = activate_refusal(&s, new) {
+        return Stepped {
+            answer: s.refused(refusal),
+            state: s,
+        };
+    }
+    let late = s.report(at);
     let first = s.list.is_first(new.job(Phase::Delayed));
-    let job = new.job(Phase::from(first));
-    let lead = jobs::front_with(s.list.front(false), job, accepted);
-    let answer = Answer {
-        result: number_of(allowed),
-        running: running(lead),
-        call: entry_call(first, task, accepted),
-        late,
-    };
-    let state = State {
-        table: s.table,
-        last: now,
-        monitor: s.monitor.with_late(late),
-        list: s.list.insert(job, accepted),
-    };
-    Stepped { state, answer }
+    s.list.insert(new.job(Phase::from(first)));
+    Stepped {
+        answer: s.accepted(entry_call(first, task), late),
+        state: s,
+    }
 }
 
 // Terminate: the running job leaves the list.
-pub fn terminate(s: State, at: Tick) -> Stepped
+pub fn terminate(mut s: State, at: Tick) -> Stepped
     requires { Handed s }
     ensures { CallGives s (Terminate at) result }
 {
-    let allowed = terminate_refusal(&s, at);
-    let accepted = allowed.is_ok();
-    let now = moved(s.last, at, accepted);
-    let late = s.list.newly_late(s.last, now);
-    let first = s.list.first();
-    let line = table::line_of(s.table, first.task);
-    let ended = ended(line, first, at, accepted);
-    let lead = s.list.front(accepted);
-    let answer = Answer {
-        result: number_of(allowed),
-        running: running(lead),
-        call: settle_call(lead, accepted),
-        late,
-    };
-    let reported = s.monitor.with_late(late);
-    let state = State {
-        table: s.table,
-        last: now,
-        monitor: reported.with_ended(ended),
-        list: s.list.remove_first(accepted),
-    };
-    Stepped { state, answer }
+    if let Err(refusal) = terminate_refusal(&s, at) {
+        return Stepped {
+            answer: s.refused(refusal),
+            state: s,
+        };
+    }
+    let late = s.report_end(at);
+    let lead = s.list.remove_first();
+    Stepped {
+        answer: s.accepted(settle_call(lead), late),
+        state: s,
+    }
 }
 
 // Chain: the running job leaves, and the named task's job is inserted at the same tick.
-pub fn chain(s: State, at: Tick, task: u8) -> Stepped
+pub fn chain(mut s: State, at: Tick, task: u8) -> Stepped
     requires { Handed s }
     ensures { CallGives s (Chain at task) result }
 {
-    let first = s.list.first();
-    let lines = table::lines_of(s.table, task, first.task);
-    let new = asked(lines.one, at, task);
-    let allowed = chain_refusal(&s, new);
-    let accepted = allowed.is_ok();
-    let now = moved(s.last, at, accepted);
-    let late = s.list.newly_late(s.last, now);
-    let ended = ended(lines.other, first, at, accepted);
-    let job = new.job(Phase::Delayed);
-    let lead = jobs::front_with(s.list.front(accepted), job, accepted);
-    let answer = Answer {
-        result: number_of(allowed),
-        running: running(lead),
-        call: settle_call(lead, accepted),
-        late,
-    };
-    let reported = s.monitor.with_late(late);
-    let state = State {
-        table: s.table,
-        last: now,
-        monitor: reported.with_ended(ended),
-        list: s.list.replace_first(job, accepted),
-    };
-    Stepped { state, answer }
+    let new = s.asked(at, task);
+    if let Err(refusal) = chain_refusal(&s, new) {
+        return Stepped {
+            answer: s.refused(refusal),
+            state: s,
+        };
+    }
+    let late = s.report_end(at);
+    let lead = s.list.replace_first(new.job(Phase::Delayed));
+    Stepped {
+        answer: s.accepted(settle_call(lead), late),
+        state: s,
+    }
 }
 
 // Any of the four.
@@ -221,7 +183,7 @@ pub fn why(s: State, task: u8) -> Result<Reason, CallRefusal>
 {
     known(s.table.count, task)?;
     let asked = s.list.first_of(task);
-    let runs = s.list.front(false);
+    let runs = s.list.front();
     Ok(reason(task, asked, runs))
 }
 
@@ -335,28 +297,80 @@ fn chain_refusal(s: &State, new: Activation) -> Result<(), CallRefusal>
     in_reach(new.due)
 }
 
-// An answer's result: 0 where the call is allowed.
-fn number_of(allowed: Result<(), CallRefusal>) -> u8
-    ensures { result ≡ result_number allowed }
-{
-    match allowed {
-        Ok(()) => 0,
-        Err(refusal) => u8::from(refusal),
-    }
-}
-
 // ---- the parts of a call
-// `accepted` is a flag beside what a part works on, and no Option of that: a refused call has an answer of its own, and goes the same way.
 
-// The job that an activation at this tick would make, and the limit that it has to keep.
-fn asked(line: Line, at: Tick, task: u8) -> Activation
-    ensures { result ≡ asked_by line at task }
-{
-    Activation {
-        at,
-        task,
-        limit: line.limit,
-        due: ticks::plus(at, line.deadline),
+impl State {
+    // The job that an activation at this tick would make, and the limit that it has to keep.
+    fn asked(&self, at: Tick, task: u8) -> Activation
+        ensures { result ≡ asked_of self.now.table at task }
+    {
+        let line = table::line_of(self.table, task);
+        Activation {
+            at,
+            task,
+            limit: line.limit,
+            due: ticks::plus(at, line.deadline),
+        }
+    }
+
+    // Time moves to the tick of an accepted call: the newly late jobs are counted, and given.
+    fn report(&mut self, at: Tick) -> Late
+        requires { Shaped self.old.list × Sorted (view self.old.list) }
+        ensures { (self.new ≡ reported_at at self.old) × (result ≡ late_of self.old at) }
+    {
+        let late = self.list.newly_late(self.last, at);
+        self.monitor.count_late(late);
+        self.last = at;
+        late
+    }
+
+    // The same where the first job ends: behind the late jobs it is counted, too, with its response.
+    fn report_end(&mut self, at: Tick) -> Late
+        requires { Shaped self.old.list × Sorted (view self.old.list) × Short self.old.table × (at.0 ≤ greatest.0) }
+        ensures { (self.new ≡ ended_at at self.old) × (result ≡ late_of self.old at) }
+    {
+        let job = self.list.first();
+        let line = table::line_of(self.table, job.task);
+        let late = self.report(at);
+        self.monitor.count_ended(Ended {
+            task: job.task,
+            response: ticks::response(at, job.due, line.deadline),
+        });
+        late
+    }
+
+    // What runs: the job that leads. It is the one that the kernel runs (rules, proofs/First).
+    fn running(&self) -> Option<Running>
+        ensures { result ≡ choice_in (view self.now.list) }
+    {
+        self.list.front().map(|first| Running {
+            task: first.task,
+            due: first.due,
+        })
+    }
+
+    // The answer to a refused call: no kernel call, no late job.
+    fn refused(&self, refusal: CallRefusal) -> Answer
+        ensures { result ≡ answer_of self.now (call_number refusal) NoCall (late_in []) }
+    {
+        Answer {
+            result: u8::from(refusal),
+            running: self.running(),
+            call: KernelCall::NoCall,
+            late: jobs::none_late(),
+        }
+    }
+
+    // The answer to an accepted call, by the state that it leaves.
+    fn accepted(&self, call: KernelCall, late: Late) -> Answer
+        ensures { result ≡ answer_of self.now 0 call late }
+    {
+        Answer {
+            result: 0,
+            running: self.running(),
+            call,
+            late,
+        }
     }
 }
 
@@ -373,40 +387,20 @@ impl Activation {
     }
 }
 
-// The last accepted call's tick, after this call.
-fn moved(last: Tick, at: Tick, accepted: bool) -> Tick
-    ensures { result ≡ cond accepted at last }
-{
-    if accepted { at } else { last }
-}
-
-// What runs: the job that leads. It is the one that the kernel runs (rules, proofs/First).
-fn running(lead: Option<Job>) -> Option<Running>
-    ensures { result ≡ choice_of lead }
-{
-    lead.map(|first| Running {
-        task: first.task,
-        due: first.due,
-    })
-}
-
 // The kernel call of an activation: ActivateTask if the new job is first, otherwise none.
-fn entry_call(first: bool, task: u8, accepted: bool) -> KernelCall
-    ensures { result ≡ cond accepted (entry_call first task) NoCall }
+fn entry_call(first: bool, task: u8) -> KernelCall
+    ensures { result ≡ entry_call first task }
 {
-    if accepted && first {
+    if first {
         return KernelCall::ActivateTask(task);
     }
     KernelCall::NoCall
 }
 
 // The kernel call once the running job has left: ChainTask if the job that leads is delayed; otherwise TerminateTask.
-fn settle_call(lead: Option<Job>, accepted: bool) -> KernelCall
-    ensures { result ≡ cond accepted (settle_of lead) NoCall }
+fn settle_call(lead: Option<Job>) -> KernelCall
+    ensures { result ≡ settle_of lead }
 {
-    if !accepted {
-        return KernelCall::NoCall;
-    }
     let Some(job) = lead else {
         return KernelCall::TerminateTask;
     };
@@ -414,17 +408,6 @@ fn settle_call(lead: Option<Job>, accepted: bool) -> KernelCall
         Phase::Delayed => KernelCall::ChainTask(job.task),
         Phase::Released => KernelCall::TerminateTask,
     }
-}
-
-// The job that ends at a tick, with its response; none where the call is refused.
-fn ended(line: Line, job: Job, at: Tick, accepted: bool) -> Option<Ended>
-    requires { (line.deadline.0 ≤ 1000000000) × (accepted ≡ true → at.0 ≤ greatest.0) }
-    ensures { result ≡ ended_if accepted job.task (response_by at job.due line.deadline) }
-{
-    accepted.then(|| Ended {
-        task: job.task,
-        response: ticks::response(at, job.due, line.deadline),
-    })
 }
 
 // Does nothing. Its contract is all of specs/Claims, so that a claim without a proof fails the check.

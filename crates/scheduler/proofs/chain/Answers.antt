@@ -1,73 +1,57 @@
 -- `scheduler::chain` meets its contract. Assumes nothing.
-use mathlib.Core.Path.{◌≡◌, refl, ap, ◌∙◌}
-use mathlib.Core.Bool.{true, cond}
+use mathlib.Core.Path.{◌≡◌, refl, sym, ap, ◌∙◌}
 use lib.ListN.{drop}
 use Rattle.rules.specs.declared.Call.TheVariants.{Chain}
-use Rattle.rules.specs.declared.Late.{Late}
-use Rattle.rules.specs.declared.Job.{Job}
 use Rattle.rules.specs.declared.Phase.TheVariants.{Delayed}
-use Rattle.rules.specs.declared.KernelCall.TheVariants.{NoCall}
-use Rattle.table.specs.declared.LinePair.{LinePair}
-use Rattle.std.specs.Prelude.{Option}
-use Rattle.jobs.specs.Listed.{view, pack, insert_due, release_first, lead_of, lead_with}
+use Rattle.jobs.specs.Listed.{view, pack, insert_due, release_first, lead_of}
+use Rattle.scheduler.specs.declared.State.{State}
 use Rattle.scheduler.specs.declared.Activation.{Activation}
-use Rattle.scheduler.specs.Steps.{choice_of, settle_of, asked_of, chain_refusal, job_as, settled_in, chained_in, late_counted, tallied_in}
+use Rattle.scheduler.specs.Steps.{settle_of, asked_of, chain_refusal, job_as, settled_in, chained_in, late_of, late_counted, tallied_in}
 use Rattle.scheduler.proofs.Rows.{allowed_in}
 use Rattle.scheduler.proofs.Whole.{change_in}
-use Rattle.scheduler.proofs.Handed.{handed_shaped, handed_sorted, handed_short, hand_on, Ends, chain_ends}
-use Rattle.scheduler.proofs.Decided.{decided_as, asked_is, allowed_if, list_if, runs_if, leaves_if, settles_if, chain_if, tallied_if}
+use Rattle.scheduler.proofs.Handed.{handed_shaped, handed_sorted, handed_short, Ends, chain_ends}
+use Rattle.scheduler.proofs.Decided.{at_0, refused_gives, accepted_gives}
 use Rattle.scheduler.proofs.chain.Goals as goal
-use Rattle.scheduler.proofs.chain.Goals.{After-asked-new, After-chain_refusal-allowed, After-is_ok-accepted}
+use Rattle.scheduler.proofs.chain.Goals.{After-chain_refusal, In_default}
 
--- the activation that is asked for, and what is found
-new_is : (c : After-asked-new) → c.asked-new.result ≡ asked_of c.args.s.table c.args.at c.args.task
-new_is c =
-    let a = c.args in
-    asked_is a.s.table a.at a.task _ _ (ap (λ (x : LinePair). x.one) c.lines_of-lines.ensures) c.asked-new.ensures
-
-allowed : (c : After-chain_refusal-allowed) → c.chain_refusal-allowed.result ≡ allowed_in c.args.s (Chain c.args.at c.args.task)
-allowed c =
-    let a = c.args in
-    c.chain_refusal-allowed.ensures ∙ ap (chain_refusal a.s.last a.s.table.count a.s.list) (new_is c.before.before)
+-- the rows that are tested
+rows : (c : After-chain_refusal) → allowed_in c.args.s (Chain c.args.at c.args.task) ≡ c.chain_refusal.result
+rows c =
+    let s = c.args.s in
+    sym (c.chain_refusal.ensures ∙ ap (chain_refusal s.last s.table.count s.list) c.asked-new.ensures)
 
 -- where the call is accepted a job ends
-ends : (c : After-is_ok-accepted) → c.is_ok-accepted.result ≡ true → Ends c.args.s c.args.at
-ends c t =
-    chain_ends c.args.s c.requires c.args.at c.args.task (allowed_if c.args.s (Chain c.args.at c.args.task) _ _ (allowed c.before.before) c.is_ok-accepted.ensures.value t)
+ends : (c : In_default) → Ends c.args.s c.args.at
+ends c =
+    let s = c.args.s in
+    chain_ends s c.requires c.args.at c.args.task (at_0 s c.requires (Chain c.args.at c.args.task) (rows c.before ∙ c.in_default.is))
 
-pub chain_refusal-allowed-requires : goal.chain_refusal-allowed-requires
-chain_refusal-allowed-requires c = handed_shaped c.args.s c.requires
+pub chain_refusal-requires : goal.chain_refusal-requires
+chain_refusal-requires c = handed_shaped c.args.s c.requires
 
-pub newly_late-late-requires : goal.newly_late-late-requires
-newly_late-late-requires c =
-    (handed_shaped c.args.s c.requires, handed_sorted c.args.s c.requires)
+pub returns-in-Err : goal.returns-in-Err
+returns-in-Err c =
+    refused_gives c.args.s c.requires (Chain c.args.at c.args.task) c.in-Err.refusal (rows (goal.at.returns-in-Err c).After-chain_refusal ∙ c.in-Err.is) _ c.refused.ensures
 
-pub ended-ended-requires : goal.ended-ended-requires
-ended-ended-requires c =
-    (rw (ap (λ (x : LinePair). x.other) c.lines_of-lines.ensures) ((handed_short c.args.s c.requires).deadlines c.first-first.result.task), λ t. (ends (goal.at.ended-ended-requires c).After-is_ok-accepted t).in_time)
+pub report_end-late-requires : goal.report_end-late-requires
+report_end-late-requires c =
+    (handed_shaped c.args.s c.requires, handed_sorted c.args.s c.requires, handed_short c.args.s c.requires, (ends (goal.at.report_end-late-requires c).In_default).in_time)
 
-pub replace_first-requires : goal.replace_first-requires
-replace_first-requires c =
-    (handed_shaped c.args.s c.requires, λ t. (ends (goal.at.replace_first-requires c).After-is_ok-accepted t).some_one)
+pub replace_first-lead-requires : goal.replace_first-lead-requires
+replace_first-lead-requires c =
+    rw c.report_end-late.ensures.0 (handed_shaped c.args.s c.requires, (ends (goal.at.replace_first-lead-requires c).In_default).some_one)
 
 pub returns : goal.returns
 unfolding chained_in settled_in asked_of
 returns c =
     let s = c.args.s in
+    let at = c.args.at in
     let n = c.args.task in
-    let e = Chain c.args.at n in
-    let ok = c.is_ok-accepted.result in
-    let xs = view s.list in
-    let job = c.job-job.result in
-    let j : job ≡ job_as n (asked_of s.table c.args.at n).due Delayed = c.job-job.ensures ∙ ap (λ (x : Activation). job_as x.task x.due Delayed) (new_is (goal.at.returns c).After-asked-new) in
-    let l : c.front_with-lead.result ≡ lead_of (cond ok (insert_due job (drop 1 xs)) xs) = c.front_with-lead.ensures ∙ ap (lead_with ok job) c.front.ensures ∙ chain_if ok job xs (drop 1 xs) in
-    hand_on s c.requires e _
-    (decided_as s c.requires e c.chain_refusal-allowed.result c.number_of.result ok (allowed (goal.at.returns c).After-chain_refusal-allowed) c.number_of.ensures c.is_ok-accepted.ensures.value c.args.at (change_in s e) (λ (x : Late). tallied_in s.table xs c.args.at (late_counted x s.monitor)) refl _ _ _ _ _ _
-    (record {
-      time = c.moved-now.ensures;
-      lates = c.newly_late-late.ensures;
-      jobs = list_if ok (release_first (insert_due job (drop 1 xs))) s.list _ (handed_shaped s c.requires) c.replace_first.ensures ∙ ap (λ (x : Job). cond ok (pack (release_first (insert_due x (drop 1 xs)))) s.list) j;
-      tallies = tallied_if ok s c.args.at c.newly_late-late.result c.first-first.result c.lines_of-lines.result.other c.ended-ended.result c.with_late-reported.result _ c.first-first.ensures (ap (λ (x : LinePair). x.other) c.lines_of-lines.ensures) c.ended-ended.ensures c.with_late-reported.ensures c.with_ended.ensures;
-      runs = c.running.ensures ∙ ap choice_of l ∙ leaves_if ok xs (insert_due job (drop 1 xs)) ∙ runs_if (cond ok (release_first (insert_due job (drop 1 xs))) xs) _ c.replace_first.ensures;
-      calls = c.settle_call.ensures ∙ ap (λ (x : Option Job). cond ok (settle_of x) NoCall) l ∙ settles_if ok xs (insert_due job (drop 1 xs)) ∙ ap (λ (x : Job). cond ok (settle_of (lead_of (insert_due x (drop 1 xs)))) NoCall) j;
-    }))
+    let e = Chain at n in
+    let p = c.report_end-late.ensures.0 in
+    let l : c.report_end-late.new.self.list ≡ s.list = ap (λ (x : State). x.list) p in
+    let j : c.job.result ≡ job_as n (asked_of s.table at n).due Delayed = c.job.ensures ∙ ap (λ (x : Activation). job_as x.task x.due Delayed) c.asked-new.ensures in
+    let k : c.replace_first-lead.new.self ≡ (change_in s e).list = c.replace_first-lead.ensures.0 ∙ (λ i. pack (release_first (insert_due (j i) (drop 1 (view (l i)))))) in
+    let f : c.settle_call.result ≡ (change_in s e).call = c.settle_call.ensures ∙ ap settle_of (c.replace_first-lead.ensures.1 ∙ (λ i. lead_of (insert_due (j i) (drop 1 (view (l i)))))) in
+    accepted_gives s c.requires e (rows (goal.at.returns c).After-chain_refusal ∙ c.in_default.is) at (tallied_in s.table (view s.list) at (late_counted (late_of s at) s.monitor)) (change_in s e) refl _
+    (λ i. record { table = (p i).table; last = (p i).last; list = k i; monitor = (p i).monitor }) _ f _ c.report_end-late.ensures.1 _ c.accepted.ensures

@@ -1,51 +1,44 @@
 -- `scheduler::terminate` meets its contract. Assumes nothing.
-use mathlib.Core.Path.{◌≡◌, refl, ap, ◌∙◌}
-use mathlib.Core.Bool.{true, cond}
+use mathlib.Core.Path.{◌≡◌, refl, sym, ap, ◌∙◌}
 use lib.ListN.{drop}
 use Rattle.rules.specs.declared.Call.TheVariants.{Terminate}
-use Rattle.rules.specs.declared.Late.{Late}
-use Rattle.rules.specs.declared.Job.{Job}
-use Rattle.rules.specs.declared.KernelCall.TheVariants.{NoCall}
-use Rattle.std.specs.Prelude.{Option}
-use Rattle.jobs.specs.Listed.{view, release_first}
-use Rattle.scheduler.specs.Steps.{choice_of, settle_of, settled_in, late_counted, tallied_in}
+use Rattle.jobs.specs.declared.JobList.{JobList}
+use Rattle.jobs.specs.Listed.{view, pack, release_first, lead_of}
+use Rattle.scheduler.specs.declared.State.{State}
+use Rattle.scheduler.specs.Steps.{settle_of, settled_in, late_of, late_counted, tallied_in}
 use Rattle.scheduler.proofs.Whole.{change_in}
-use Rattle.scheduler.proofs.Handed.{handed_shaped, handed_sorted, handed_short, hand_on, Ends, terminate_ends}
-use Rattle.scheduler.proofs.Decided.{decided_as, allowed_if, list_if, runs_if, leaves_if, settles_if, tallied_if}
+use Rattle.scheduler.proofs.Handed.{handed_shaped, handed_sorted, handed_short, Ends, terminate_ends}
+use Rattle.scheduler.proofs.Decided.{at_0, refused_gives, accepted_gives}
 use Rattle.scheduler.proofs.terminate.Goals as goal
-use Rattle.scheduler.proofs.terminate.Goals.{After-is_ok-accepted}
+use Rattle.scheduler.proofs.terminate.Goals.{In_default}
 
 -- where the call is accepted a job ends
-ends : (c : After-is_ok-accepted) → c.is_ok-accepted.result ≡ true → Ends c.args.s c.args.at
-ends c t =
-    terminate_ends c.args.s c.requires c.args.at (allowed_if c.args.s (Terminate c.args.at) _ _ c.terminate_refusal-allowed.ensures c.is_ok-accepted.ensures.value t)
+ends : (c : In_default) → Ends c.args.s c.args.at
+ends c =
+    let s = c.args.s in
+    terminate_ends s c.requires c.args.at (at_0 s c.requires (Terminate c.args.at) (sym c.terminate_refusal.ensures ∙ c.in_default.is))
 
-pub newly_late-late-requires : goal.newly_late-late-requires
-newly_late-late-requires c =
-    (handed_shaped c.args.s c.requires, handed_sorted c.args.s c.requires)
+pub returns-in-Err : goal.returns-in-Err
+returns-in-Err c =
+    refused_gives c.args.s c.requires (Terminate c.args.at) c.in-Err.refusal (sym c.terminate_refusal.ensures ∙ c.in-Err.is) _ c.refused.ensures
 
-pub ended-ended-requires : goal.ended-ended-requires
-ended-ended-requires c =
-    (rw c.line_of-line.ensures ((handed_short c.args.s c.requires).deadlines c.first-first.result.task), λ t. (ends (goal.at.ended-ended-requires c).After-is_ok-accepted t).in_time)
+pub report_end-late-requires : goal.report_end-late-requires
+report_end-late-requires c =
+    (handed_shaped c.args.s c.requires, handed_sorted c.args.s c.requires, handed_short c.args.s c.requires, (ends (goal.at.report_end-late-requires c).In_default).in_time)
 
-pub remove_first-requires : goal.remove_first-requires
-remove_first-requires c =
-    (handed_shaped c.args.s c.requires, λ t. (ends (goal.at.remove_first-requires c).After-is_ok-accepted t).some_one)
+pub remove_first-lead-requires : goal.remove_first-lead-requires
+remove_first-lead-requires c =
+    rw c.report_end-late.ensures.0 (handed_shaped c.args.s c.requires, (ends (goal.at.remove_first-lead-requires c).In_default).some_one)
 
 pub returns : goal.returns
 unfolding settled_in
 returns c =
     let s = c.args.s in
-    let e = Terminate c.args.at in
-    let ok = c.is_ok-accepted.result in
-    let xs = view s.list in
-    hand_on s c.requires e _
-    (decided_as s c.requires e c.terminate_refusal-allowed.result c.number_of.result ok c.terminate_refusal-allowed.ensures c.number_of.ensures c.is_ok-accepted.ensures.value c.args.at (change_in s e) (λ (l : Late). tallied_in s.table xs c.args.at (late_counted l s.monitor)) refl _ _ _ _ _ _
-    (record {
-      time = c.moved-now.ensures;
-      lates = c.newly_late-late.ensures;
-      jobs = list_if ok (release_first (drop 1 xs)) s.list _ (handed_shaped s c.requires) c.remove_first.ensures;
-      tallies = tallied_if ok s c.args.at c.newly_late-late.result c.first-first.result c.line_of-line.result c.ended-ended.result c.with_late-reported.result _ c.first-first.ensures c.line_of-line.ensures c.ended-ended.ensures c.with_late-reported.ensures c.with_ended.ensures;
-      runs = c.running.ensures ∙ ap choice_of c.front-lead.ensures ∙ leaves_if ok xs (drop 1 xs) ∙ runs_if (cond ok (release_first (drop 1 xs)) xs) _ c.remove_first.ensures;
-      calls = c.settle_call.ensures ∙ ap (λ (l : Option Job). cond ok (settle_of l) NoCall) c.front-lead.ensures ∙ settles_if ok xs (drop 1 xs);
-    }))
+    let at = c.args.at in
+    let e = Terminate at in
+    let p = c.report_end-late.ensures.0 in
+    let l : c.report_end-late.new.self.list ≡ s.list = ap (λ (x : State). x.list) p in
+    let k : c.remove_first-lead.new.self ≡ (change_in s e).list = c.remove_first-lead.ensures.0 ∙ ap (λ (x : JobList). pack (release_first (drop 1 (view x)))) l in
+    let f : c.settle_call.result ≡ (change_in s e).call = c.settle_call.ensures ∙ ap settle_of (c.remove_first-lead.ensures.1 ∙ ap (λ (x : JobList). lead_of (drop 1 (view x))) l) in
+    accepted_gives s c.requires e (sym c.terminate_refusal.ensures ∙ c.in_default.is) at (tallied_in s.table (view s.list) at (late_counted (late_of s at) s.monitor)) (change_in s e) refl _
+    (λ i. record { table = (p i).table; last = (p i).last; list = k i; monitor = (p i).monitor }) _ f _ c.report_end-late.ensures.1 _ c.accepted.ensures

@@ -1,29 +1,23 @@
 -- `scheduler::tick` meets its contract. Assumes nothing.
-use mathlib.Core.Path.{refl, ap, ◌∙◌}
+use mathlib.Core.Path.{refl, sym, ◌∙◌}
 use Rattle.rules.specs.declared.Call.TheVariants.{Wait}
-use Rattle.rules.specs.declared.Late.{Late}
-use Rattle.scheduler.specs.Steps.{choice_of, late_counted}
+use Rattle.scheduler.specs.Steps.{late_of, late_counted}
 use Rattle.scheduler.proofs.Whole.{change_in}
-use Rattle.scheduler.proofs.Handed.{handed_shaped, handed_sorted, hand_on}
-use Rattle.scheduler.proofs.Decided.{decided_as, kept_if, none_if, reported_if}
+use Rattle.scheduler.proofs.Handed.{handed_shaped, handed_sorted}
+use Rattle.scheduler.proofs.Decided.{refused_gives, accepted_gives}
 use Rattle.scheduler.proofs.tick.Goals as goal
 
-pub newly_late-late-requires : goal.newly_late-late-requires
-newly_late-late-requires c =
-    (handed_shaped c.args.s c.requires, handed_sorted c.args.s c.requires)
+pub returns-in-Err : goal.returns-in-Err
+returns-in-Err c =
+    let s = c.args.s in
+    refused_gives s c.requires (Wait c.args.at) c.in-Err.refusal (sym c.in_time.ensures ∙ c.in-Err.is) _ c.refused.ensures
+
+pub report-late-requires : goal.report-late-requires
+report-late-requires c = (handed_shaped c.args.s c.requires, handed_sorted c.args.s c.requires)
 
 pub returns : goal.returns
 returns c =
     let s = c.args.s in
-    let e = Wait c.args.at in
-    let ok = c.is_ok-accepted.result in
-    hand_on s c.requires e _
-    (decided_as s c.requires e c.in_time-allowed.result c.number_of.result ok c.in_time-allowed.ensures c.number_of.ensures c.is_ok-accepted.ensures.value c.args.at (change_in s e) (λ (l : Late). late_counted l s.monitor) refl _ _ _ _ _ _
-    (record {
-      time = c.moved-now.ensures;
-      lates = c.newly_late-late.ensures;
-      jobs = kept_if ok s.list;
-      tallies = reported_if ok c.newly_late-late.result s _ c.with_late.ensures;
-      runs = c.running.ensures ∙ ap choice_of c.front-lead.ensures;
-      calls = none_if ok;
-    }))
+    let at = c.args.at in
+    let e = Wait at in
+    accepted_gives s c.requires e (sym c.in_time.ensures ∙ c.in_default.is) at (late_counted (late_of s at) s.monitor) (change_in s e) refl _ c.report-late.ensures.0 _ refl _ c.report-late.ensures.1 _ c.accepted.ensures

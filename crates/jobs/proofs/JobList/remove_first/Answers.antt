@@ -1,25 +1,17 @@
 -- `JobList::remove_first` meets its contract. Assumes nothing.
 use Prim.Native.Nat.{◌-◌}
-use mathlib.Core.Path.{sym, ap, ◌∙◌}
-use mathlib.Core.Bool.{cond}
-use Rattle.jobs.proofs.Changes.{aim_most, remove_law}
+use mathlib.Core.Path.{◌≡◌, ◌∙◌}
+use mathlib.Core.Bool.{false}
+use borrow.Author.Rules.{rules}
+use lib.ListN.{drop}
+use Rattle.rules.specs.declared.Job.{Job}
+use Rattle.jobs.specs.declared.JobList.{JobList}
+use Rattle.jobs.specs.Listed.{view, pack}
+use Rattle.jobs.proofs.Changes.{remove_law, led_law, lead_law}
 use Rattle.jobs.proofs.JobList.remove_first.Goals as goal
-use Rattle.jobs.proofs.JobList.remove_first.Goals.{then-accepted, else-accepted}
-
-pub overflow_sub-count : goal.overflow_sub-count
-overflow_sub-count c = c.requires.1 c.if-accepted.true
-
-pub left-requires : goal.left-requires
-left-requires c =
-    rw c.aimed-aim.ensures (aim_most c.args.self c.requires.0 _ c.args.accepted)
 
 pub returns : goal.returns
 returns c =
-    let a = c.args in
-    let n = a.self.count in
-    rw (c.left.ensures, c.aimed-aim.ensures, c.blank.ensures)
-    (remove_law a.self c.requires.0 a.accepted c.if-accepted.count c.requires.1
-    (elim c.if-accepted.branch [
-      | then-accepted w ↦ ap (λ z. cond z (n - 1) n) w.if-accepted.true ∙ sym w.count-is
-      | else-accepted w ↦ ap (λ z. cond z (n - 1) n) w.if-accepted.false ∙ sym w.count-is
-    ]))
+    let l = c.args.self.now in
+    let e : ◌≡◌ {A = JobList} (record { jobs = c.slide.new.jobs; count = l.count - 1 }) (pack (drop 1 (view l))) = rw (c.slide.ensures (λ (y : Job). false) (λ y b p. search rules), c.blank.ensures) (remove_law l c.requires.0 c.requires.1) in
+    (c.release_first.ensures.0 ∙ led_law _ _ e, c.release_first.ensures.1 ∙ lead_law _ _ e)

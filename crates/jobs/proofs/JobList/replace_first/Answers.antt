@@ -1,11 +1,15 @@
 -- `JobList::replace_first` meets its contract. Assumes nothing.
-use Rattle.jobs.proofs.Changes.{aim_most, replace_law}
+use mathlib.Core.Path.{◌≡◌, ◌∙◌}
+use borrow.Author.Rules.{rules}
+use lib.ListN.{drop}
+use Rattle.jobs.specs.declared.JobList.{JobList}
+use Rattle.jobs.specs.Listed.{view, pack, goes_before, insert_due}
+use Rattle.jobs.proofs.Changes.{replace_law, led_law, lead_law}
 use Rattle.jobs.proofs.JobList.replace_first.Goals as goal
-
-pub replaced-requires : goal.replaced-requires
-replaced-requires c =
-    rw c.aimed-aim.ensures (aim_most c.args.self c.requires.0 c.args.job c.args.accepted)
 
 pub returns : goal.returns
 returns c =
-    rw (c.replaced.ensures, c.aimed-aim.ensures) (replace_law c.args.self c.requires.0 c.args.job c.args.accepted c.requires.1)
+    let l = c.args.self.now in
+    let job = c.args.job in
+    let e : ◌≡◌ {A = JobList} (record { jobs = c.slide.new.jobs; count = l.count }) (pack (insert_due job (drop 1 (view l)))) = rw (c.slide.ensures (goes_before job) (λ y b p. search rules)) (replace_law l c.requires.0 job c.requires.1) in
+    (c.release_first.ensures.0 ∙ led_law _ _ e, c.release_first.ensures.1 ∙ lead_law _ _ e)
