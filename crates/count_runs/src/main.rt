@@ -24,16 +24,18 @@ fn set(late: u32, ended: u32, response: u64) -> Monitor {
 }
 
 // Newly late jobs of one task.
-fn late(monitor: Monitor, jobs: u8, task: u8) -> Monitor {
-    monitor.with_late(Late {
+fn late(mut monitor: Monitor, jobs: u8, task: u8) -> Monitor {
+    monitor.count_late(Late {
         count: jobs,
         tasks: [task; PLACES],
-    })
+    });
+    monitor
 }
 
 // An ended job of a task, with its response.
-fn ended(monitor: Monitor, task: u8, response: u64) -> Monitor {
-    monitor.with_ended(Some(Ended { task, response }))
+fn ended(mut monitor: Monitor, task: u8, response: u64) -> Monitor {
+    monitor.count_ended(Ended { task, response });
+    monitor
 }
 
 // What is counted of the first task and the last.
