@@ -119,12 +119,7 @@ impl JobList {
         requires { Shaped self.old × (0 < self.old.count) }
         ensures { (self.new ≡ pack (release_first (insert_due job (drop 1 (view self.old))))) × (result ≡ lead_of (insert_due job (drop 1 (view self.old)))) }
     {
-        slide(
-            &mut self.jobs,
-            self.count,
-            job,
-            |next| goes_before(job, next),
-        );
+        slide(&mut self.jobs, self.count, job, |x| goes_before(job, x));
         self.release_first()
     }
 
