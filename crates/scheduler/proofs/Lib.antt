@@ -8,6 +8,8 @@ pub mod Whole
 pub mod Handed
 pub mod Cases
 pub mod Decided
+-- and by one way for both
+pub mod OneWay
 pub mod Waits
 pub mod Checking
 pub mod Claims
