@@ -1,23 +1,20 @@
 -- What the code gives for a call that is refused, and for one that is accepted, is the rule-book's step. Assumes nothing.
 use mathlib.Core.Path.{◌≡◌, sym, ap, ◌∙◌}
-use mathlib.Core.List.{[]}
 use Prim.Native.Nat.{ℕ}
 use native.Mathlib.Omega.{arith}
 use Rattle.std.specs.Prelude.{Ok, Err}
 use Rattle.rules.specs.declared.Tick.{Tick}
 use Rattle.rules.specs.declared.Late.{Late}
 use Rattle.rules.specs.declared.Call.{Call}
-use Rattle.rules.specs.declared.Answer.{Answer}
 use Rattle.rules.specs.declared.CallRefusal.{CallRefusal}
 use Rattle.rules.specs.declared.CallRefusal.TheVariants.{NoJob, NoTask, LimitReached, BadTick, DueBeyond, NoPlace}
 use Rattle.rules.specs.declared.KernelCall.{KernelCall}
-use Rattle.rules.specs.declared.KernelCall.TheVariants.{NoCall}
 use Rattle.rules.specs.Answers.{call_number, result_number}
-use Rattle.jobs.specs.Listed.{late_in}
 use Rattle.monitor.specs.declared.Monitor.{Monitor}
 use Rattle.scheduler.specs.declared.State.{State}
+use Rattle.scheduler.specs.declared.Stepped.{Stepped}
 use Rattle.scheduler.specs.State.{Handed, CallGives}
-use Rattle.scheduler.specs.Steps.{Change, late_of, answer_of, refused_of, accepted_of}
+use Rattle.scheduler.specs.Steps.{Change, late_of, left_as, refused_of, accepted_of}
 use Rattle.scheduler.proofs.Rows.{allowed_in, refusal_in}
 use Rattle.scheduler.proofs.Whole.{accepted_in}
 use Rattle.scheduler.proofs.Handed.{handed_refused, handed_accepted, hand_on}
@@ -35,15 +32,13 @@ module _ (s : State) (d : Handed s) (e : Call) where
   pub at_0 : allowed_in s e ≡ Ok tt → refusal_in s e ≡ 0
   at_0 q = ap result_number q
 
-  pub refused_gives : (k : CallRefusal) → allowed_in s e ≡ Err k → (a : Answer) → a ≡ answer_of s (call_number k) NoCall (late_in []) → CallGives s e (record { state = s; answer = a })
-  unfolding refused_of
-  refused_gives k q a f =
-      hand_on s d e _ ((λ i. record { state = s; answer = f i }) ∙ handed_refused s d e (call_number k) (sym (ap result_number q)) (not_0 k))
+  pub refused_gives : (k : CallRefusal) → allowed_in s e ≡ Err k → (r : Stepped) → r ≡ refused_of s (call_number k) → CallGives s e r
+  refused_gives k q r f = hand_on s d e r (f ∙ handed_refused s d e (call_number k) (sym (ap result_number q)) (not_0 k))
 
   -- late jobs are counted at tick t, as c has them, and the list and the kernel call are those of m
   pub accepted_gives : allowed_in s e ≡ Ok tt → (t : Tick) (c : Monitor) (m : Change) → accepted_in s e ≡ accepted_of s.table t (late_of s t) c m
       → (z : State) → z ≡ record { table = s.table; last = t; list = m.list; monitor = c } → (k : KernelCall) → k ≡ m.call → (l : Late) → l ≡ late_of s t
-      → (a : Answer) → a ≡ answer_of z 0 k l → CallGives s e (record { state = z; answer = a })
+      → (r : Stepped) → r ≡ left_as z k l → CallGives s e r
   unfolding accepted_of
-  accepted_gives q t c m w z f k g l h a n =
-      hand_on s d e _ ((λ i. record { state = f i; answer = (n ∙ (λ j. answer_of (f j) 0 (g j) (h j))) i }) ∙ sym w ∙ handed_accepted s d e (at_0 q))
+  accepted_gives q t c m w z f k g l h r n =
+      hand_on s d e r (n ∙ (λ i. left_as (f i) (g i) (h i)) ∙ sym w ∙ handed_accepted s d e (at_0 q))

@@ -11,7 +11,6 @@ use Rattle.rules.specs.declared.KernelCall.TheVariants.{NoCall, ActivateTask, Ch
 use Rattle.rules.specs.declared.CallRefusal.{CallRefusal}
 use Rattle.rules.specs.declared.CallRefusal.TheVariants.{NoJob, NoTask, LimitReached, BadTick, DueBeyond, NoPlace}
 use Rattle.rules.specs.Answers.{Choice, runs_as, phase_of}
-use Rattle.rules.specs.declared.Answer.{Answer}
 use Rattle.rules.specs.declared.Late.{Late}
 use Rattle.rules.specs.declared.Reason.{Reason}
 use Rattle.rules.specs.declared.Reason.TheVariants.{NonePending, ItRuns, Earlier, ThereFirst}
@@ -180,10 +179,6 @@ ended_at t s =
 
 -- ---- the whole
 
--- the answer by the state that a call leaves: number k, the running job, kernel call c, late jobs l
-abbrev pub answer_of : State → ℕ → KernelCall → Late → Answer
-answer_of s k c l = record { result = k; running = choice_in (view s.list); call = c; late = l }
-
 -- a refused call: number k, the unchanged running job, no kernel call, no late job
 unfoldable pub refused_of : State → ℕ → Stepped
 refused_of s k =
@@ -192,10 +187,10 @@ refused_of s k =
       answer = record { result = k; running = choice_in (view s.list); call = NoCall; late = late_in [] };
     }
 
--- an accepted call: late jobs l, counts c, and the list and kernel call of m
+-- an accepted call, which leaves state s: kernel call c, late jobs l
+abbrev pub left_as : State → KernelCall → Late → Stepped
+left_as s c l = record { state = s; answer = record { result = 0; running = choice_in (view s.list); call = c; late = l } }
+
+-- late jobs l, counts c, and the list and kernel call of m
 unfoldable pub accepted_of : TaskTable → Tick → Late → Monitor → Change → Stepped
-accepted_of t at l c m =
-    record {
-      state = record { table = t; last = at; list = m.list; monitor = c };
-      answer = record { result = 0; running = choice_in (view m.list); call = m.call; late = l };
-    }
+accepted_of t at l c m = left_as (record { table = t; last = at; list = m.list; monitor = c }) m.call l

@@ -1,13 +1,12 @@
 // The scheduler by value: the check that hands out a state, and the calls. Each promises what the rule-book gives.
 #![tactic(auto)]
 
-ghost use Rattle.std.specs.Prelude.{◌≡◌, ◌≤◌, []};
+ghost use Rattle.std.specs.Prelude.{◌≡◌, ◌≤◌};
 ghost use Rattle.rules.specs.declared.Call.TheVariants.{Wait, Activate, Terminate, Chain};
-ghost use Rattle.rules.specs.declared.KernelCall.TheVariants.{NoCall};
-ghost use Rattle.jobs.specs.Listed.{Shaped, Sorted, view, late_in};
+ghost use Rattle.jobs.specs.Listed.{Shaped, Sorted, view};
 ghost use Rattle.rules.specs.Answers.{call_number};
 ghost use Rattle.rules.specs.Table.{greatest};
-ghost use Rattle.scheduler.specs.Steps.{fresh_of, choice_in, asked_of, in_time, some_job, known, below_limit, some_place, in_reach, activate_refusal, terminate_refusal, chain_refusal, job_as, entry_call, settle_of, reason_of, Short, late_of, reported_at, ended_at, answer_of};
+ghost use Rattle.scheduler.specs.Steps.{fresh_of, choice_in, asked_of, in_time, some_job, known, below_limit, some_place, in_reach, activate_refusal, terminate_refusal, chain_refusal, job_as, entry_call, settle_of, reason_of, Short, late_of, reported_at, ended_at, refused_of, left_as};
 ghost use Rattle.scheduler.specs.State.{Handed, CheckGives, CallGives, why_of};
 ghost use Rattle.scheduler.specs.Claims.{Claims};
 
@@ -89,16 +88,10 @@ pub fn tick(mut s: State, at: Tick) -> Stepped
     ensures { CallGives s (Wait at) result }
 {
     if let Err(refusal) = in_time(s.last, at) {
-        return Stepped {
-            answer: s.refused(refusal),
-            state: s,
-        };
+        return s.refused(refusal);
     }
     let late = s.report(at);
-    Stepped {
-        answer: s.accepted(KernelCall::NoCall, late),
-        state: s,
-    }
+    s.accepted(KernelCall::NoCall, late)
 }
 
 // Activate: a new job of the task goes into the list, and is released if it is first.
@@ -108,18 +101,12 @@ pub fn activate(mut s: State, at: Tick, task: u8) -> Stepped
 {
     let new = s.asked(at, task);
     if let Err(refusal) = activate_refusal(&s, new) {
-        return Stepped {
-            answer: s.refused(refusal),
-            state: s,
-        };
+        return s.refused(refusal);
     }
     let late = s.report(at);
     let first = s.list.is_first(new.job(Phase::Delayed));
     s.list.insert(new.job(Phase::from(first)));
-    Stepped {
-        answer: s.accepted(entry_call(first, task), late),
-        state: s,
-    }
+    s.accepted(entry_call(first, task), late)
 }
 
 // Terminate: the running job leaves the list.
@@ -128,17 +115,11 @@ pub fn terminate(mut s: State, at: Tick) -> Stepped
     ensures { CallGives s (Terminate at) result }
 {
     if let Err(refusal) = terminate_refusal(&s, at) {
-        return Stepped {
-            answer: s.refused(refusal),
-            state: s,
-        };
+        return s.refused(refusal);
     }
     let late = s.report_end(at);
     let lead = s.list.remove_first();
-    Stepped {
-        answer: s.accepted(settle_call(lead), late),
-        state: s,
-    }
+    s.accepted(settle_call(lead), late)
 }
 
 // Chain: the running job leaves, and the named task's job is inserted at the same tick.
@@ -148,17 +129,11 @@ pub fn chain(mut s: State, at: Tick, task: u8) -> Stepped
 {
     let new = s.asked(at, task);
     if let Err(refusal) = chain_refusal(&s, new) {
-        return Stepped {
-            answer: s.refused(refusal),
-            state: s,
-        };
+        return s.refused(refusal);
     }
     let late = s.report_end(at);
     let lead = s.list.replace_first(new.job(Phase::Delayed));
-    Stepped {
-        answer: s.accepted(settle_call(lead), late),
-        state: s,
-    }
+    s.accepted(settle_call(lead), late)
 }
 
 // Any of the four.
@@ -349,27 +324,35 @@ impl State {
         })
     }
 
-    // The answer to a refused call: no kernel call, no late job.
-    fn refused(&self, refusal: CallRefusal) -> Answer
-        ensures { result ≡ answer_of self.now (call_number refusal) NoCall (late_in []) }
+    // What a refused call gives: no kernel call, no late job, and the state as it is.
+    fn refused(&self, refusal: CallRefusal) -> Stepped
+        ensures { result ≡ refused_of self.now (call_number refusal) }
     {
-        Answer {
+        let answer = Answer {
             result: u8::from(refusal),
             running: self.running(),
             call: KernelCall::NoCall,
             late: jobs::none_late(),
+        };
+        Stepped {
+            state: *self,
+            answer,
         }
     }
 
-    // The answer to an accepted call, by the state that it leaves.
-    fn accepted(&self, call: KernelCall, late: Late) -> Answer
-        ensures { result ≡ answer_of self.now 0 call late }
+    // What an accepted call gives, which leaves this state.
+    fn accepted(&self, call: KernelCall, late: Late) -> Stepped
+        ensures { result ≡ left_as self.now call late }
     {
-        Answer {
+        let answer = Answer {
             result: 0,
             running: self.running(),
             call,
             late,
+        };
+        Stepped {
+            state: *self,
+            answer,
         }
     }
 }
