@@ -22,7 +22,7 @@ pub fn check(lines: &[Line]) -> Checked
     scheduler::check(TaskTable::copied(lines))
 }
 
-// ---- the calls: alike but for the step that each makes; one function over a closure would be as long at each
+// ---- the calls: alike but for the step that each makes; one function over a closure would be as long at each. `Handed` stands at each: what a refused check gives is a State, too
 
 // Tick: time moves; no kernel call.
 pub fn tick(s: &mut State, at: Tick) -> Answer

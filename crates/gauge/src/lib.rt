@@ -8,10 +8,7 @@ use transcript::Run;
 
 // What runs, as one number.
 fn running_in(choice: Option<Running>) -> u64 {
-    match choice {
-        None => 0,
-        Some(running) => running.due.0 ^ u64::from(running.task),
-    }
+    choice.map_or(0, |running| running.due.0 ^ u64::from(running.task))
 }
 
 // An answer as one number.
@@ -21,15 +18,12 @@ fn answer_in(a: Answer) -> u64 {
 
 // A count of bytes written as one number.
 fn written_in(answer: Result<usize, TapeRefusal>) -> u64 {
-    match answer {
-        Ok(n) => n as u64,
-        Err(refusal) => u64::from(u8::from(refusal)),
-    }
+    answer.map_or_else(|refusal| u64::from(u8::from(refusal)), |n| n as u64)
 }
 
 // ---- tapes
 
-// The calls of a tape's records, to the end or a refusal. A tape has no more records than bytes.
+// The calls of a tape's records, to the end or a refusal. A tape has no more records than bytes. (Of its own: other readers of records show the place and the refusal, too.)
 #[derive(Drop)]
 struct Records<'a> {
     tape: &'a [u8],

@@ -96,7 +96,7 @@ struct HeadStepped {
     answer: HeadAnswer,
 }
 
-// ---- how a state is kept for C
+// ---- how a state is kept for C: by functions and not From, since jobs that are taken over already are passed beside the state
 
 // A job as C keeps it.
 impl From<Job> for HeadJob {
@@ -114,7 +114,7 @@ impl From<Job> for HeadJob {
     }
 }
 
-// Jobs as C keeps them: the first n are taken over, and those behind them are there already.
+// Jobs as C keeps them: the first n are taken over, and those behind them are there already. (By places: one array is read where the other is written.)
 fn placed_jobs(there: [HeadJob; PLACES], jobs: [Job; PLACES], n: usize) -> [HeadJob; PLACES]
     requires { (n ≤ places) × (drop n there ≡ drop n (map placed_job jobs)) }
     ensures { result ≡ map placed_job jobs }
@@ -344,7 +344,7 @@ fn checked_table(t: TaskTable) -> HeadChecked
     }
 }
 
-// ---- the calls by value
+// ---- the calls by value: `HeadHanded` stands at each, since C may hand in any state
 
 // What a call gives, as C keeps it, by its jobs as C keeps them.
 fn stepped_for(next: Stepped, jobs: [HeadJob; PLACES]) -> HeadStepped

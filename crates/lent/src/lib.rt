@@ -37,7 +37,7 @@ pub fn write_table(table: LineList<MOST_LINES>, buf: &mut [u8]) -> Result<usize,
     board::write_table(&[Line::default(); 256], buf)
 }
 
-// ---- the calls: alike but for the call of the board that each makes; one function over a closure would be as long at each
+// ---- the calls: alike but for the call of the board that each makes; one function over a closure would be as long at each. `Handed` stands at each, as in `board`
 
 // As `board::tick`, on a state that is lent to it and comes back.
 pub fn tick(mut s: State, at: Tick) -> Stepped
@@ -75,7 +75,7 @@ pub fn chain(mut s: State, at: Tick, task: u8) -> Stepped
     Stepped { state: s, answer }
 }
 
-// Any of the four.
+// Any of the four. (The arms of `scheduler::call`, over the functions above.)
 pub fn call(s: State, call: Call) -> Stepped
     requires { Handed s }
     ensures { CallGives s call result }

@@ -178,7 +178,7 @@ enum Asked {
     Call,
 }
 
-// A line that begins with a small letter asks for something. 'printed' and 'state' are told by their first letter, the other words by their third.
+// A line that begins with a small letter asks for something. 'printed' and 'state' are told by their first letter, the other words by their third: letters and no words, since a line that only has them is read so.
 fn asked_by(text: &[u8]) -> Option<Asked> {
     let asked = match (script::byte_at(text, 0), script::byte_at(text, 2)) {
         (first, _) if first < b'a' => return None,

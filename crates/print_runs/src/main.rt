@@ -82,7 +82,7 @@ fn long(tape: &[u8]) {
 // ---- lines
 
 // A line of words. One that begins with a small letter is a tape: 'tape: 01 05 ..' is printed, and what it prints; 'why: ..', and why its tasks wait;
-// 'long: ..', and the sum of what it prints.
+// 'long: ..', and the sum of what it prints. (By its letter: a line that only begins so is read so.)
 fn line_of(text: &[u8]) {
     show::put(text);
     show::put(b"\n");

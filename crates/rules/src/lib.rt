@@ -27,7 +27,7 @@ pub struct Line {
     pub limit: u8,
 }
 
-// The lines that a refused table's answer names: none, the line, or both.
+// The lines that a refused table's answer names: none, the line, or both. (Three ways, so no Option.)
 #[derive(Clone, Copy)]
 pub enum Named {
     NoneNamed,
@@ -91,7 +91,7 @@ pub enum Call {
     Chain(Tick, u8),
 }
 
-// The kernel call that a call made.
+// The kernel call that a call made. (Four ways, one sign each in a print, so no Option of three.)
 #[derive(Clone, Copy)]
 pub enum KernelCall {
     NoCall,
@@ -107,7 +107,7 @@ pub struct Running {
     pub due: Tick,
 }
 
-// Newly late jobs: their count, and their tasks in 32 places, unused places 0.
+// Newly late jobs: their count, and their tasks in 32 places, unused places 0. (C has the same in c/head.h; there is no heap.)
 #[repr(C)]
 #[derive(Clone, Copy)]
 pub struct Late {
@@ -177,7 +177,7 @@ pub enum Unopened {
     BadTape(Halt),
 }
 
-// Why a task's first pending job does or does not run: none is pending, it runs, an earlier deadline is running, or the same deadline was there first. The running job is named by its task and deadline.
+// Why a task's first pending job does or does not run: none is pending, it runs, an earlier deadline is running, or the same deadline was there first. The running job is named by its task and deadline, as the claim WhyTrue takes them apart.
 #[derive(Clone, Copy)]
 pub enum Reason {
     NonePending,

@@ -61,7 +61,7 @@ fn first_part(text: &[u8], end: u8) -> (&[u8], &[u8])
     }
 }
 
-// The first place from here on that holds this byte; the text's end where none does.
+// The first place from here on that holds this byte; the text's end where none does, and no Option: a part ends there, too.
 pub fn find(text: &[u8], from: usize, b: u8) -> usize
     requires { from ≤ length text.now }
     ensures { (from ≤ result) × (result ≤ length text.now) }
@@ -79,7 +79,7 @@ pub fn behind(text: &[u8], at: usize) -> &[u8]
     &text[at.min(text.len())..]
 }
 
-// The byte at a place; 0 past the end.
+// The byte at a place; 0 past the end, and no Option: no word has a 0.
 pub fn byte_at(text: &[u8], at: usize) -> u8 {
     text.get(at).copied().unwrap_or(0)
 }
@@ -104,7 +104,7 @@ fn digits(text: &[u8]) -> &[u8] {
     behind(text, n.unwrap_or(text.len()))
 }
 
-// The first number of a text, 0 where there is none; and what stands behind it.
+// The first number of a text, 0 where there is none (the runs' words read so); and what stands behind it.
 pub fn number(text: &[u8]) -> (u64, &[u8]) {
     let text = digits(text);
     let mut value = 0;
@@ -124,7 +124,7 @@ fn small(n: u64) -> u8 {
 
 // ---- calls
 
-// The letter that tells a call: its first one, or its second where that is a t.
+// The letter that tells a call: its first one, or its second where that is a t. (A letter and no word: a text that only begins so is read so.)
 fn letter(text: &[u8]) -> u8 {
     match text {
         [b't', second, ..] => *second,

@@ -54,7 +54,7 @@ pub fn put(text: &[u8]) -> bool {
 // How many bytes of a buffer are shown at most.
 const MOST_SHOWN: usize = 40;
 
-// A byte in hexadecimal, with a space in front.
+// A byte in hexadecimal, with a space in front. (By hand: it is sent as it is, with no page for `write!`.)
 fn hex(b: u8) {
     let digits = b"0123456789ABCDEF";
     put(&[b' ', digits[b as usize / 16], digits[b as usize % 16]]);

@@ -193,7 +193,7 @@ fn write(text: &[u8], room: &mut Room<ROOM>) {
 
 // ---- lines that write and read
 
-// How many lines of a table, read back one by one, are those that were written.
+// How many lines of a table, read back one by one, are those that were written. (Counted on the way: each line's place comes from the one before it.)
 fn agreeing(tape: &[u8], told: Lines) -> usize {
     let mut at = number::group_count(told.count as u64);
     let mut n = 0;
@@ -218,7 +218,7 @@ fn back(text: &[u8], tape: &[u8]) {
 
 // ---- lines
 
-// A line that is answered: 'w' writes and shows the buffer, 'b' writes and reads back, any other letter reads.
+// A line that is answered: 'w' writes and shows the buffer, 'b' writes and reads back, any other letter reads. (Letters and no words here and below, as the lines are read.)
 fn answered(text: &[u8]) {
     let mut room: Room<ROOM> = Room::new();
     match script::byte_at(text, 0) {

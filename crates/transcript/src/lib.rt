@@ -137,7 +137,7 @@ pub fn next_line(tape: &[u8], run: Run, page: &mut Page) -> Option<Run>
     Some(called.run)
 }
 
-// The records from there on are read and run with no print, to the tape's end or a bad one.
+// The records from there on are read and run with no print, to the tape's end or a bad one. (By a loop: each record's place comes from the one before it.)
 pub fn run_out(tape: &[u8], mut run: Run) -> Ran
     requires { Handed run.state }
     ensures { (result ≡ ran_of tape.now run) × Handed result.state }

@@ -15,7 +15,7 @@ type Text = Room<524288>;
 
 // ---- texts and tapes of a line
 
-// What a sign of a text stands for.
+// What a sign of a text stands for. (A table of signs.)
 fn meant(sign: u8) -> u8 {
     match sign {
         b'/' => b'\n',
@@ -105,7 +105,7 @@ fn show_tape(tape: &[u8]) {
 
 // ---- lines
 
-// A line of standard input. One that begins with a small letter is asked, from behind its first five bytes on.
+// A line of standard input. One that begins with a small letter is asked, from behind its first five bytes on. (By its letter: any four bytes may stand behind that.)
 fn answer(line: &[u8]) {
     show::put(line);
     match line {
