@@ -187,7 +187,7 @@ impl Page {
         self.byte(b'\n');
     }
 
-    // A bad tape's line, by the refusal's number and the place.
+    // A bad tape's line, by any number and the place: the promise for callers that have no refusal.
     pub fn tape_numbers(&mut self, refusal: u8, place: usize)
         ensures { Put self.old.bytes self.old.len (ended (tape_text refusal place)) self.new.bytes self.new.len }
     {

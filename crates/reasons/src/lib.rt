@@ -47,7 +47,7 @@ fn because(page: &mut Page, reason: Reason)
     }
 }
 
-// The words of a refused question, by the refusal's number.
+// The words of a refused question, by any number: the promise for callers that have no refusal.
 pub fn refused(page: &mut Page, number: u8)
     ensures { Put page.old.bytes page.old.len (refused_text number) page.new.bytes page.new.len }
 {

@@ -218,7 +218,7 @@ fn back(text: &[u8], tape: &[u8]) {
 
 // ---- lines
 
-// A line that is answered: 'w' writes and shows the buffer, 'b' writes and reads back, any other letter reads. (Letters and no words here and below, as the lines are read.)
+// A line that is answered: 'w' writes and shows the buffer, 'b' writes and reads back, any other letter reads. (Letters and no words, here and above, as the lines are read.)
 fn answered(text: &[u8]) {
     let mut room: Room<ROOM> = Room::new();
     match script::byte_at(text, 0) {
