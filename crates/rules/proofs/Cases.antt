@@ -78,6 +78,7 @@ cases =
       number_300 = refl;
       number_nine_groups = refl;
       number_tenth_group = refl;
+      tape_numbers = refl;
       record_kind_first = refl;
       record_sum_first = refl;
       write_24_first = refl;

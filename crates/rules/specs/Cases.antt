@@ -1,5 +1,5 @@
 -- Document 01, "The program and one whole run" and "Errors a builder could fall into": the printed run, cases a to l (j as Q-2 has it), and other single rows, as one statement; and those of Q-1 and Q-3. Assumes nothing.
-use Rattle.std.specs.Prelude.{ℕ, ◌+◌, ◌*◌, ◌/◌, ◌≡◌, true, false, List, [], ◌∷◌, ◌++◌, take, replicate, ltb, None, Ok, Err}
+use Rattle.std.specs.Prelude.{ℕ, ◌+◌, ◌*◌, ◌/◌, ◌≡◌, true, false, List, [], ◌∷◌, ◌++◌, map, take, replicate, ltb, None, Ok, Err}
 use Prim.Native.String.{String}
 use Rattle.std.proofs.Math.Option.{some}
 use Rattle.rules.specs.declared.Tick.{Tick}
@@ -13,8 +13,8 @@ use Rattle.rules.specs.declared.KernelCall.{KernelCall}
 use Rattle.rules.specs.declared.KernelCall.TheVariants.{NoCall, ActivateTask, ChainTask, TerminateTask}
 use Rattle.rules.specs.declared.Answer.{Answer}
 use Rattle.rules.specs.declared.Tally.{Tally}
-use Rattle.rules.specs.declared.TapeRefusal.TheVariants.{CutShort, ZeroGroup, UnknownKind, AboveBound, Unwritable, NoRoom}
-use Rattle.rules.specs.Number.{bytes_of, taken, number_at}
+use Rattle.rules.specs.declared.TapeRefusal.TheVariants.{CutShort, ZeroGroup, UnknownKind, AboveBound, Unwritable, NoRoom, TooLong}
+use Rattle.rules.specs.Number.{bytes_of, tape_number, taken, number_at}
 use Rattle.rules.specs.Tape.{lines_bytes, tape_of, record_at, read_tape, whole, written, stored}
 use Rattle.rules.specs.Table.{Table, deadline_of, priority_of, greatest, verdict, check}
 use Rattle.rules.specs.Jobs.{Job, Pending, before}
@@ -215,6 +215,8 @@ pub record Cases : Type 0 where
       number_at (0xFF ∷ 0xFF ∷ 0xFF ∷ 0xFF ∷ 0xFF ∷ 0xFF ∷ 0xFF ∷ 0xFF ∷ 0x3F ∷ []) 0 ≡ taken 4611686018427387903 9
   pub number_tenth_group :
       number_at (0xFF ∷ 0xFF ∷ 0xFF ∷ 0xFF ∷ 0xFF ∷ 0xFF ∷ 0xFF ∷ 0xFF ∷ 0xBF ∷ 0x01 ∷ []) 0 ≡ Err AboveBound
+  pub tape_numbers :
+      map tape_number (CutShort ∷ ZeroGroup ∷ UnknownKind ∷ AboveBound ∷ Unwritable ∷ NoRoom ∷ TooLong ∷ []) ≡ 20 ∷ 21 ∷ 22 ∷ 23 ∷ 24 ∷ 25 ∷ 26 ∷ []
   pub record_kind_first : record_at (0x04 ∷ []) 0 (at 0) ≡ Err UnknownKind
   pub record_sum_first : record_at (0x01 ∷ 0x01 ∷ []) 0 greatest ≡ Err AboveBound
   pub write_24_first : written true (bytes_of 300) 1 ≡ Err Unwritable

@@ -49,5 +49,10 @@ pub fn response(at: Tick, due: Tick, deadline: Span) -> u64
     requires { (plus at deadline).0 ≤ greatest.0 + greatest.0 }
     ensures { result ≡ response_by at due deadline }
 {
-    (at.0 + deadline.0).saturating_sub(due.0)
+    if due.0 <= at.0 {
+        let after = Span(at.0 - due.0);
+        return after.0 + deadline.0;
+    }
+    let before = Span(due.0 - at.0);
+    deadline.0.saturating_sub(before.0)
 }
