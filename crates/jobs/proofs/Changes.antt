@@ -6,12 +6,12 @@ use mathlib.Core.List.{List, [], ◌∷◌, ◌++◌}
 use native.Mathlib.Nat.{not-suc-le-zero}
 use native.Mathlib.Omega.{arith}
 use borrow.Author.Tests.{lt-ltb}
-use lib.ListN.{length, drop, replicate}
+use lib.ListN.{length, take, drop, replicate}
 use lib.Seq.{take-append_seam, drop-append-add}
 use Rattle.rules.specs.Words.{places}
 use Rattle.rules.specs.declared.Job.{Job}
 use Rattle.jobs.specs.declared.JobList.{JobList}
-use Rattle.jobs.specs.Listed.{blank_job, view, pack, Shaped, goes_before, insert_due, release_first, lead_of}
+use Rattle.jobs.specs.Listed.{blank_job, view, pack, Shaped, Sorted, goes_before, insert_due, release_first, lead_of}
 use Rattle.jobs.specs.Inside.{enter_at, slide, slide_at, led}
 use Rattle.rules.proofs.Lists.{length_insert as inserted-length}
 use Rattle.jobs.proofs.Laid.{view_length, view_pack}
@@ -115,3 +115,19 @@ pub replace_law : (l : JobList) → Shaped l → (j : Job) → 0 < l.count → �
 replace_law l s j h =
     ap (λ (x : JobList). record { jobs = slid (goes_before j) j x; count = x.count }) s.blanks
     ∙ replace_packed j (view l) (omega (arith, view_length l s, h)) (omega (arith, view_length l s, s.small))
+
+-- ---- among how many jobs a call works that is made or not: a refused one among none
+
+module _ (l : JobList) (s : Shaped l) where
+  pub aim_less : (b : Bool) → (b ≡ true → l.count < places) → cond b l.count 0 < places
+  aim_less true h = h refl
+  aim_less false h = omega arith
+
+  pub aim_most : (b : Bool) → cond b l.count 0 ≤ places
+  aim_most true = s.small
+  aim_most false = omega arith
+
+  -- those are in order, if the list is
+  pub aim_sorted : (b : Bool) → Sorted (view l) → Sorted (take (cond b l.count 0) l.jobs)
+  aim_sorted true o = o
+  aim_sorted false o = tt

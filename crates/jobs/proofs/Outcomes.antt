@@ -13,6 +13,11 @@ use Rattle.jobs.proofs.JobList.first.Reads as first
 use Rattle.jobs.proofs.JobList.front.Reads as front
 use Rattle.jobs.proofs.none_late.Reads as none_late
 use Rattle.jobs.proofs.JobList.newly_late.Reads as newly_late
+use Rattle.jobs.proofs.insert.Reads as insert_by_value
+use Rattle.jobs.proofs.remove_first.Reads as remove_first_by_value
+use Rattle.jobs.proofs.replace_first.Reads as replace_first_by_value
+use Rattle.jobs.proofs.front.Reads as front_by_value
+use Rattle.jobs.proofs.front_with.Reads as front_with
 
 pub record Outcomes : Type 0 where
   empty : OneStated empty.Post
@@ -27,6 +32,11 @@ pub record Outcomes : Type 0 where
   front : OneStated front.Post
   none_late : OneStated none_late.Post
   newly_late : OneStated newly_late.Post
+  insert_by_value : OneStated insert_by_value.Post
+  remove_first_by_value : OneStated remove_first_by_value.Post
+  replace_first_by_value : OneStated replace_first_by_value.Post
+  front_by_value : OneStated front_by_value.Post
+  front_with : OneStated front_with.Post
 
 pub the_outcomes : Outcomes
 the_outcomes =
@@ -43,4 +53,9 @@ the_outcomes =
       front = λ κs a r r' s s'. only;
       none_late = λ κs a r r' s s'. only;
       newly_late = λ κs a r r' s s'. only;
+      insert_by_value = λ κs a r r' s s'. only;
+      remove_first_by_value = λ κs a r r' s s'. only;
+      replace_first_by_value = λ κs a r r' s s'. only;
+      front_by_value = λ κs a r r' s s'. only;
+      front_with = λ κs a r r' s s'. only;
     }

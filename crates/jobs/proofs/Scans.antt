@@ -12,7 +12,7 @@ use Rattle.jobs.specs.declared.JobList.{JobList}
 use Rattle.std.specs.Prelude.{Some}
 use Rattle.std.specs.List.{count_by, find}
 use Rattle.std.proofs.lemmas.List.Recursion.{is_count_by}
-use Rattle.jobs.specs.Listed.{blank_job, view, goes_before, is_first_in, is_of, pending_of, first_in, lead_of}
+use Rattle.jobs.specs.Listed.{blank_job, view, goes_before, is_first_in, insert_due, is_of, pending_of, first_in, lead_of, lead_with}
 
 -- ---- the first job
 
@@ -51,3 +51,16 @@ own_law t (x ∷ xs) = go (is_of t x) (own_law t xs)
     go : (b : Bool) → find (is_of t) xs ≡ lead_of (only (is_of t) xs) → cond b (Some x) (find (is_of t) xs) ≡ lead_of (cond b (x ∷ only (is_of t) xs) (only (is_of t) xs))
     go true ih = refl
     go false ih = ih
+
+-- ---- the job that leads
+
+-- where a new job enters, it leads or the one that led
+pub lead_with_lem : (b : Bool) (j : Job) (xs : List Job) → lead_with b j (lead_of xs) ≡ lead_of (cond b (insert_due j xs) xs)
+unfolding insert_due
+lead_with_lem false j xs = refl
+lead_with_lem true j [] = refl
+lead_with_lem true j (x ∷ xs) = go (goes_before j x)
+  where
+    go : (b : Bool) → cond b (Some j) (Some x) ≡ lead_of (cond b (j ∷ x ∷ xs) (x ∷ insert_due j xs))
+    go true = refl
+    go false = refl

@@ -1,5 +1,5 @@
 -- Document 01, "Ticks and jobs": the list of pending jobs as a plain list. `view` reads it off a JobList, `pack` lays it out in one. Assumes nothing.
-use Rattle.std.specs.Prelude.{ℕ, ◌-◌, ◌≤◌, ◌≡◌, Bool, true, false, not, ◌&&◌, List, [], ◌∷◌, ◌++◌, map, length, take, replicate, ltb, eqb, Option, Some, None}
+use Rattle.std.specs.Prelude.{ℕ, ◌-◌, ◌≤◌, ◌≡◌, Bool, true, false, not, ◌&&◌, cond, List, [], ◌∷◌, ◌++◌, map, length, take, replicate, ltb, eqb, Option, Some, None}
 use Rattle.rules.specs.declared.Phase.TheVariants.{Delayed, Released}
 use Rattle.rules.specs.declared.Tick.{Tick}
 use Rattle.rules.specs.declared.Job.{Job}
@@ -79,6 +79,12 @@ first_in (x ∷ xs) = x
 abbrev pub lead_of : List Job → Option Job
 lead_of [] = None
 lead_of (x ∷ xs) = Some x
+
+-- and the one that leads where a new job enters
+abbrev pub lead_with : Bool → Job → Option Job → Option Job
+lead_with false j x = x
+lead_with true j None = Some j
+lead_with true j (Some x) = cond (goes_before j x) (Some j) (Some x)
 
 -- ---- newly late jobs
 

@@ -1,11 +1,11 @@
 // The list of pending jobs: an array of jobs in the order of the list, and a count.
 #![tactic(auto)]
 
-ghost use Rattle.std.specs.Prelude.{◌≡◌, [], Bool, ◌≤◌, ◌<◌, take, drop};
+ghost use Rattle.std.specs.Prelude.{◌≡◌, [], Bool, true, cond, ◌≤◌, ◌<◌, take, drop};
 ghost use Rattle.std.specs.List.{count_by, find};
 ghost use Rattle.rules.specs.Words.{places, only};
 ghost use Rattle.rules.specs.declared.Job.{Job};
-ghost use Rattle.jobs.specs.Listed.{blank_job, is_earlier, goes_before, view, pack, Shaped, Sorted, is_first_in, insert_due, released_job, release_first, is_of, lead_of, pending_of, first_in, late_in, newly_late_in};
+ghost use Rattle.jobs.specs.Listed.{blank_job, is_earlier, goes_before, view, pack, Shaped, Sorted, is_first_in, insert_due, released_job, release_first, is_of, lead_of, lead_with, pending_of, first_in, late_in, newly_late_in};
 ghost use Rattle.jobs.specs.Inside.{enter_at, slide_at, led, late_step};
 
 use rules::{Job, Late, PLACES, Phase, Tick};
@@ -191,10 +191,10 @@ impl JobList {
         self.jobs[0]
     }
 
-    // The newly late jobs, by a scan that stops at the first job that is not late: behind it none is.
-    fn late_from(&self, last: Tick, at: Tick) -> Late
-        requires { Shaped self.now × Sorted (view self.now) }
-        ensures { result ≡ newly_late_in last at (view self.now) }
+    // The newly late jobs, by a scan that stops at the first job that is not late: behind it none is. (By value: so a list that is only asked isn't copied where none is late.)
+    fn late_from(self, last: Tick, at: Tick) -> Late
+        requires { Shaped self × Sorted (view self) }
+        ensures { result ≡ newly_late_in last at (view self) }
     {
         let mut late = none_late();
         for job in self.pending() {
@@ -217,9 +217,76 @@ impl JobList {
         let job = self.jobs[0];
         let due = job.due;
         if ticks::is_past(at, due) {
-            return self.late_from(last, at);
+            let list = *self;
+            return list.late_from(last, at);
         }
         none_late()
+    }
+}
+
+// ---- by value, for a call that is made or not: where it is refused, what was given comes back as it was
+
+// A new job goes in at its place.
+pub fn insert(mut list: JobList, job: Job, accepted: bool) -> JobList
+    requires { Shaped list × Sorted (view list) × (accepted ≡ true → list.count < places) }
+    ensures { result ≡ pack (cond accepted (insert_due job (view list)) (view list)) }
+{
+    if accepted {
+        list.insert(job);
+    }
+    list
+}
+
+// The first job leaves, and the new first one is released.
+pub fn remove_first(mut list: JobList, accepted: bool) -> JobList
+    requires { Shaped list × (accepted ≡ true → 0 < list.count) }
+    ensures { result ≡ pack (cond accepted (release_first (drop 1 (view list))) (view list)) }
+{
+    if accepted {
+        list.remove_first();
+    }
+    list
+}
+
+// The first job leaves, a new one goes in at its place, and the new first one is released.
+pub fn replace_first(mut list: JobList, job: Job, accepted: bool) -> JobList
+    requires { Shaped list × (accepted ≡ true → 0 < list.count) }
+    ensures { result ≡ pack (cond accepted (release_first (insert_due job (drop 1 (view list)))) (view list)) }
+{
+    if accepted {
+        list.replace_first(job);
+    }
+    list
+}
+
+// The job that leads; where the first job leaves, the one behind it.
+pub fn front(list: JobList, leaves: bool) -> Option<Job>
+    ensures { result ≡ lead_of (cond leaves (drop 1 (view list)) (view list)) }
+{
+    if !leaves {
+        return list.front();
+    }
+    if list.count <= 1 {
+        return None;
+    }
+    Some(list.jobs[1])
+}
+
+// The job that leads where a new one enters.
+pub fn front_with(lead: Option<Job>, job: Job, enters: bool) -> Option<Job>
+    ensures { result ≡ lead_with enters job lead }
+{
+    if !enters {
+        return lead;
+    }
+    match lead {
+        None => Some(job),
+        Some(other) => {
+            if goes_before(job, other) {
+                return Some(job);
+            }
+            Some(other)
+        }
     }
 }
 

@@ -1,8 +1,8 @@
 // Monitoring: what is counted of each task.
 #![tactic(auto)]
 
-ghost use Rattle.std.specs.Prelude.{◌≡◌};
-ghost use Rattle.rules.specs.Counts.{no_tallies, up, late_more, ended_more, with_late};
+ghost use Rattle.std.specs.Prelude.{◌≡◌, cond};
+ghost use Rattle.rules.specs.Counts.{no_tallies, up, late_more, ended_more, on_task, with_late};
 ghost use Rattle.monitor.specs.Tallies.{counts, tasks_of, with_end};
 
 use rules::{Late, PLACES, Tally};
@@ -86,4 +86,24 @@ impl Monitor {
             self.tallies[t] = ended_more(self.tallies[t], ended.response);
         }
     }
+}
+
+// ---- by value
+
+// The newly late jobs are counted, each for its task.
+pub fn with_late(mut monitor: Monitor, late: Late) -> Monitor
+    ensures { result ≡ counts (with_late (tasks_of late) monitor.tallies) }
+{
+    monitor.count_late(late);
+    monitor
+}
+
+// A job of a task ended, with its response; where none did, nothing is counted.
+pub fn with_ended(mut monitor: Monitor, ends: bool, task: u8, response: u64) -> Monitor
+    ensures { result ≡ counts (cond ends (on_task task (ended_more response) monitor.tallies) monitor.tallies) }
+{
+    if ends {
+        monitor.count_ended(Ended { task, response });
+    }
+    monitor
 }

@@ -25,7 +25,7 @@ loop-job-preserved c =
     let a = c.args in
     let xs = c.pending-job-items.result.now in
     let job = get_or xs l.job-index blank_job in
-    let v = step xs (view a.self.now) l.job-index c.pending-job-items.ensures c.loop-job-test.true in
+    let v = step xs (view a.self) l.job-index c.pending-job-items.ensures c.loop-job-test.true in
     let turn = ap (late_scan a.last a.at l.late) v ∙ scan_next a.last a.at l.late job _ (sym c.is_past.ensures ∙ c.if-not-is_past.false) in
     let k : c.late_step-late.result.count ≤ l.job-index + 1 = rw c.late_step-late.ensures (omega (arith, step_count a.last l.late job)) in
     record { few = k; turns = rw c.late_step-late.ensures (sym turn ∙ l.invariant.turns) }
@@ -34,14 +34,14 @@ pub returns-then-not-is_past : goal.returns-then-not-is_past
 returns-then-not-is_past c =
     let l = c.loop-job in
     let a = c.args in
-    let v = step c.pending-job-items.result.now (view a.self.now) l.job-index c.pending-job-items.ensures c.loop-job-test.true in
+    let v = step c.pending-job-items.result.now (view a.self) l.job-index c.pending-job-items.ensures c.loop-job-test.true in
     let stop = ap (late_scan a.last a.at l.late) v ∙ scan_stop a.last a.at l.late _ _ (sym c.is_past.ensures ∙ c.if-not-is_past.true) in
-    sym stop ∙ l.invariant.turns ∙ scan_law a.last a.at _ a.self.now c.none_late-late.ensures c.requires.0 c.requires.1
+    sym stop ∙ l.invariant.turns ∙ scan_law a.last a.at _ a.self c.none_late-late.ensures c.requires.0 c.requires.1
 
 pub returns-after-loop-job : goal.returns-after-loop-job
 returns-after-loop-job c =
     let l = c.loop-job in
     let a = c.args in
-    let m : length (view a.self.now) ≤ l.job-index = rw (← c.pending-job-items.ensures) c.loop-job-test.false in
-    let end = ap (late_scan a.last a.at l.late) (drop_of_length-le (view a.self.now) m) ∙ scan_none a.last a.at l.late in
-    sym end ∙ l.invariant.turns ∙ scan_law a.last a.at _ a.self.now c.none_late-late.ensures c.requires.0 c.requires.1
+    let m : length (view a.self) ≤ l.job-index = rw (← c.pending-job-items.ensures) c.loop-job-test.false in
+    let end = ap (late_scan a.last a.at l.late) (drop_of_length-le (view a.self) m) ∙ scan_none a.last a.at l.late in
+    sym end ∙ l.invariant.turns ∙ scan_law a.last a.at _ a.self c.none_late-late.ensures c.requires.0 c.requires.1
