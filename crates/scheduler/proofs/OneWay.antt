@@ -43,6 +43,11 @@ count_none : (c : Monitor) → late_counted (late_in []) c ≡ c
 unfolding late_counted late_in
 count_none c = refl
 
+-- what is the same either way
+pub same_if : {A : Type 0} (b : Bool) (x : A) → x ≡ cond b x x
+same_if true x = refl
+same_if false x = refl
+
 -- ---- the whole
 
 -- the parts as the code puts them together

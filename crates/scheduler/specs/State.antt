@@ -2,6 +2,7 @@
 use Rattle.std.specs.Prelude.{ℕ, ◌-◌, ◌≡◌, List, [], map, Result}
 use Rattle.rules.specs.declared.Job.{Job as Entry}
 use Rattle.rules.specs.declared.Tick.{Tick}
+use Rattle.rules.specs.declared.Answer.{Answer}
 use Rattle.rules.specs.declared.Call.{Call}
 use Rattle.rules.specs.declared.Reason.{Reason}
 use Rattle.rules.specs.declared.CallRefusal.{CallRefusal}
@@ -109,3 +110,7 @@ CheckGives g r = (r ≡ checked_of g) × HandedOut r
 
 abbrev pub CallGives : State → Call → Stepped → Type 0
 CallGives s e r = (r ≡ step_of s e) × Handed r.state
+
+-- the same of a state where it stands: call e found s, answered a and left t
+abbrev pub CallLeaves : State → Call → Answer → State → Type 0
+CallLeaves s e a t = CallGives s e (record { state = t; answer = a })

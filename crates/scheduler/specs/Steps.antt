@@ -4,6 +4,7 @@ use Rattle.std.specs.Result.{result_and}
 use Rattle.rules.specs.declared.Tick.{Tick}
 use Rattle.rules.specs.declared.Job.{Job as Entry}
 use Rattle.rules.specs.declared.Line.{Line}
+use Rattle.rules.specs.declared.Span.{Span}
 use Rattle.rules.specs.declared.Phase.{Phase}
 use Rattle.rules.specs.declared.Phase.TheVariants.{Delayed, Released}
 use Rattle.rules.specs.declared.KernelCall.{KernelCall}
@@ -156,7 +157,11 @@ response_in t x at = response_by at x.due (line_at t.lines x.task).deadline
 unfoldable pub late_counted : Late → Monitor → Monitor
 late_counted l c = counts (with_late (tasks_of l) c.tallies)
 
--- and then the first job, which ended
+-- and then a job of relative deadline d, which ended
+abbrev pub ended_more_in : Span → Entry → Tick → Monitor → Monitor
+ended_more_in d x at c = counts (on_task x.task (ended_more (response_by at x.due d)) c.tallies)
+
+-- the first job, by the table's line
 unfoldable pub tallied_in : TaskTable → List Entry → Tick → Monitor → Monitor
 tallied_in t xs at c = counts (on_task (first_in xs).task (ended_more (response_in t (first_in xs) at)) c.tallies)
 
@@ -167,6 +172,15 @@ late_of s t = newly_late_in s.last t (view s.list)
 -- time moves to tick t: they are counted; and the first job, if it ends
 abbrev pub reported_at : Tick → State → State
 reported_at t s = record { table = s.table; last = t; list = s.list; monitor = late_counted (late_of s t) s.monitor }
+
+abbrev pub ended_by : Span → Tick → State → State
+ended_by d t s =
+    record {
+      table = s.table;
+      last = t;
+      list = s.list;
+      monitor = ended_more_in d (first_in (view s.list)) t (late_counted (late_of s t) s.monitor);
+    }
 
 abbrev pub ended_at : Tick → State → State
 ended_at t s =

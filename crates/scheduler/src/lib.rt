@@ -1,19 +1,20 @@
 // The scheduler by value: the check that hands out a state, and the calls. Each promises what the rule-book gives.
 #![tactic(auto)]
 
-ghost use Rattle.std.specs.Prelude.{◌≡◌, ◌≤◌};
+ghost use Rattle.std.specs.Prelude.{◌≡◌, ◌≤◌, cond, eqb};
 ghost use Rattle.rules.specs.declared.Call.TheVariants.{Wait, Activate, Terminate, Chain};
 ghost use Rattle.jobs.specs.Listed.{Shaped, Sorted, view};
-ghost use Rattle.rules.specs.Answers.{call_number};
+ghost use Rattle.rules.specs.Answers.{call_number, result_number};
 ghost use Rattle.rules.specs.Table.{greatest};
-ghost use Rattle.scheduler.specs.Steps.{fresh_of, choice_in, asked_of, in_time, some_job, known, below_limit, some_place, in_reach, activate_refusal, terminate_refusal, chain_refusal, job_as, entry_call, settle_of, reason_of, Short, late_of, reported_at, ended_at, refused_of, left_as};
-ghost use Rattle.scheduler.specs.State.{Handed, CheckGives, CallGives, why_of};
+ghost use Rattle.scheduler.specs.Steps.{fresh_of, choice_in, asked_by, in_time, some_job, known, below_limit, some_place, in_reach, activate_refusal, terminate_refusal, chain_refusal, job_as, entry_call, settle_of, reason_of, late_of, reported_at, ended_by, refused_of, left_as};
+ghost use Rattle.scheduler.specs.State.{Handed, CheckGives, CallGives, CallLeaves, why_of};
 ghost use Rattle.scheduler.specs.Claims.{Claims};
 
 use jobs::JobList;
 use monitor::{Ended, Monitor};
 use rules::{
-    Answer, Call, CallRefusal, Job, KernelCall, Late, PLACES, Phase, Reason, Running, Tick, Verdict,
+    Answer, Call, CallRefusal, Job, KernelCall, Late, Line, PLACES, Phase, Reason, Running, Span,
+    Tick, Verdict,
 };
 use table::TaskTable;
 
@@ -80,18 +81,33 @@ fn fresh(table: TaskTable) -> State
     }
 }
 
-// ---- the calls: a refused one is answered at once; an accepted one changes the state in place
+// ---- the calls: by value. Those that change the list go over the same calls on a state where it stands, and give that at one place: with one for a refused call and one for an accepted one it would be copied once more.
 
-// Tick: time moves; no kernel call.
-pub fn tick(mut s: State, at: Tick) -> Stepped
+// Tick: time moves; no kernel call. (One way for both: where time doesn't move no job is newly late. So the table and the list are handed on as they are.)
+pub fn tick(s: State, at: Tick) -> Stepped
     requires { Handed s }
     ensures { CallGives s (Wait at) result }
 {
-    if let Err(refusal) = in_time(s.last, at) {
-        return s.refused(refusal);
+    let refusal = number_of(in_time(s.last, at));
+    let now = moved(refusal, s.last, at);
+    let late = s.list.newly_late(s.last, now);
+    let mut monitor = s.monitor;
+    monitor.count_late(late);
+    let answer = Answer {
+        result: refusal,
+        running: s.running(),
+        call: KernelCall::NoCall,
+        late,
+    };
+    Stepped {
+        state: State {
+            table: s.table,
+            last: now,
+            list: s.list,
+            monitor,
+        },
+        answer,
     }
-    let late = s.report(at);
-    s.accepted(KernelCall::NoCall, late)
 }
 
 // Activate: a new job of the task goes into the list, and is released if it is first.
@@ -99,14 +115,8 @@ pub fn activate(mut s: State, at: Tick, task: u8) -> Stepped
     requires { Handed s }
     ensures { CallGives s (Activate at task) result }
 {
-    let new = s.asked(at, task);
-    if let Err(refusal) = activate_refusal(&s, new) {
-        return s.refused(refusal);
-    }
-    let late = s.report(at);
-    let first = s.list.is_first(new.job(Phase::Delayed));
-    s.list.insert(new.job(Phase::from(first)));
-    s.accepted(entry_call(first, task), late)
+    let answer = s.activate(at, task);
+    Stepped { state: s, answer }
 }
 
 // Terminate: the running job leaves the list.
@@ -114,12 +124,8 @@ pub fn terminate(mut s: State, at: Tick) -> Stepped
     requires { Handed s }
     ensures { CallGives s (Terminate at) result }
 {
-    if let Err(refusal) = terminate_refusal(&s, at) {
-        return s.refused(refusal);
-    }
-    let late = s.report_end(at);
-    let lead = s.list.remove_first();
-    s.accepted(settle_call(lead), late)
+    let answer = s.terminate(at);
+    Stepped { state: s, answer }
 }
 
 // Chain: the running job leaves, and the named task's job is inserted at the same tick.
@@ -127,13 +133,8 @@ pub fn chain(mut s: State, at: Tick, task: u8) -> Stepped
     requires { Handed s }
     ensures { CallGives s (Chain at task) result }
 {
-    let new = s.asked(at, task);
-    if let Err(refusal) = chain_refusal(&s, new) {
-        return s.refused(refusal);
-    }
-    let late = s.report_end(at);
-    let lead = s.list.replace_first(new.job(Phase::Delayed));
-    s.accepted(settle_call(lead), late)
+    let answer = s.chain(at, task);
+    Stepped { state: s, answer }
 }
 
 // Any of the four.
@@ -157,8 +158,9 @@ pub fn why(s: State, task: u8) -> Result<Reason, CallRefusal>
     ensures { result ≡ why_of s task }
 {
     known(s.table.count, task)?;
-    let asked = s.list.first_of(task);
-    let runs = s.list.front();
+    let list = s.list;
+    let asked = list.first_of(task);
+    let runs = list.front();
     Ok(reason(task, asked, runs))
 }
 
@@ -272,21 +274,53 @@ fn chain_refusal(s: &State, new: Activation) -> Result<(), CallRefusal>
     in_reach(new.due)
 }
 
-// ---- the parts of a call
+// ---- the calls on a state where it stands: a refused one is answered at once
 
 impl State {
-    // The job that an activation at this tick would make, and the limit that it has to keep.
-    fn asked(&self, at: Tick, task: u8) -> Activation
-        ensures { result ≡ asked_of self.now.table at task }
+    fn activate(&mut self, at: Tick, task: u8) -> Answer
+        requires { Handed self.old }
+        ensures { CallLeaves self.old (Activate at task) result self.new }
     {
         let line = table::line_of(self.table, task);
-        Activation {
-            at,
-            task,
-            limit: line.limit,
-            due: ticks::plus(at, line.deadline),
+        let new = asked(line, at, task);
+        if let Err(refusal) = activate_refusal(self, new) {
+            return self.refused(refusal);
         }
+        let late = self.report(at);
+        let first = self.list.is_first(new.job(Phase::Delayed));
+        self.list.insert(new.job(Phase::from(first)));
+        self.accepted(entry_call(first, task), late)
     }
+
+    fn terminate(&mut self, at: Tick) -> Answer
+        requires { Handed self.old }
+        ensures { CallLeaves self.old (Terminate at) result self.new }
+    {
+        if let Err(refusal) = terminate_refusal(self, at) {
+            return self.refused(refusal);
+        }
+        let line = table::line_of(self.table, self.list.first().task);
+        let late = self.report_end(at, line.deadline);
+        let lead = self.list.remove_first();
+        self.accepted(settle_call(lead), late)
+    }
+
+    // The line of the new job's task and that of the one that ends are looked up at once.
+    fn chain(&mut self, at: Tick, task: u8) -> Answer
+        requires { Handed self.old }
+        ensures { CallLeaves self.old (Chain at task) result self.new }
+    {
+        let lines = table::lines_of(self.table, task, self.list.first().task);
+        let new = asked(lines.one, at, task);
+        if let Err(refusal) = chain_refusal(self, new) {
+            return self.refused(refusal);
+        }
+        let late = self.report_end(at, lines.other.deadline);
+        let lead = self.list.replace_first(new.job(Phase::Delayed));
+        self.accepted(settle_call(lead), late)
+    }
+
+    // ---- the parts of a call
 
     // Time moves to the tick of an accepted call: the newly late jobs are counted, and given.
     fn report(&mut self, at: Tick) -> Late
@@ -299,17 +333,16 @@ impl State {
         late
     }
 
-    // The same where the first job ends: behind the late jobs it is counted, too, with its response.
-    fn report_end(&mut self, at: Tick) -> Late
-        requires { Shaped self.old.list × Sorted (view self.old.list) × Short self.old.table × (at.0 ≤ greatest.0) }
-        ensures { (self.new ≡ ended_at at self.old) × (result ≡ late_of self.old at) }
+    // The same where the first job ends, of which the relative deadline is given: behind the late jobs it is counted, too, with its response.
+    fn report_end(&mut self, at: Tick, deadline: Span) -> Late
+        requires { Shaped self.old.list × Sorted (view self.old.list) × (deadline.0 ≤ 1000000000) × (at.0 ≤ greatest.0) }
+        ensures { (self.new ≡ ended_by deadline at self.old) × (result ≡ late_of self.old at) }
     {
         let job = self.list.first();
-        let line = table::line_of(self.table, job.task);
         let late = self.report(at);
         self.monitor.count_ended(Ended {
             task: job.task,
-            response: ticks::response(at, job.due, line.deadline),
+            response: ticks::response(at, job.due, deadline),
         });
         late
     }
@@ -324,36 +357,60 @@ impl State {
         })
     }
 
-    // What a refused call gives: no kernel call, no late job, and the state as it is.
-    fn refused(&self, refusal: CallRefusal) -> Stepped
-        ensures { result ≡ refused_of self.now (call_number refusal) }
+    // What a refused call answers: no kernel call, no late job.
+    fn refused(&self, refusal: CallRefusal) -> Answer
+        ensures { result ≡ (refused_of self.now (call_number refusal)).answer }
     {
-        let answer = Answer {
+        Answer {
             result: u8::from(refusal),
             running: self.running(),
             call: KernelCall::NoCall,
             late: jobs::none_late(),
-        };
-        Stepped {
-            state: *self,
-            answer,
         }
     }
 
-    // What an accepted call gives, which leaves this state.
-    fn accepted(&self, call: KernelCall, late: Late) -> Stepped
-        ensures { result ≡ left_as self.now call late }
+    // What an accepted call answers, which leaves this state.
+    fn accepted(&self, call: KernelCall, late: Late) -> Answer
+        ensures { result ≡ (left_as self.now call late).answer }
     {
-        let answer = Answer {
+        Answer {
             result: 0,
             running: self.running(),
             call,
             late,
-        };
-        Stepped {
-            state: *self,
-            answer,
         }
+    }
+}
+
+// The number of a refusal; 0 where there is none.
+fn number_of(told: Result<(), CallRefusal>) -> u8
+    ensures { result ≡ result_number told }
+{
+    match told {
+        Ok(()) => 0,
+        Err(refusal) => u8::from(refusal),
+    }
+}
+
+// The last accepted call's tick, after this call.
+fn moved(refusal: u8, last: Tick, at: Tick) -> Tick
+    ensures { result ≡ cond (eqb refusal 0) at last }
+{
+    if refusal == 0 {
+        return at;
+    }
+    last
+}
+
+// The job that an activation at this tick would make, and the limit that it has to keep.
+fn asked(line: Line, at: Tick, task: u8) -> Activation
+    ensures { result ≡ asked_by line at task }
+{
+    Activation {
+        at,
+        task,
+        limit: line.limit,
+        due: ticks::plus(at, line.deadline),
     }
 }
 

@@ -1,8 +1,5 @@
 -- `State::report_end` meets its contract. Assumes nothing.
-use Rattle.scheduler.specs.Steps.{tallied_in, response_in}
 use Rattle.scheduler.proofs.State.report_end.Goals as goal
 
 pub returns : goal.returns
-unfolding tallied_in response_in
-returns c =
-    (rw (c.count_ended.ensures, c.report-late.ensures.0, c.response.ensures, c.line_of-line.ensures, c.first-job.ensures), c.report-late.ensures.1)
+returns c = (rw (c.count_ended.ensures, c.report-late.ensures.0, c.response.ensures, c.first-job.ensures), c.report-late.ensures.1)
