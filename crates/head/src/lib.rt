@@ -6,7 +6,6 @@ ghost use Rattle.rules.specs.Words.{places};
 ghost use Rattle.rules.specs.declared.Call.TheVariants.{Wait, Activate, Terminate, Chain};
 ghost use Rattle.jobs.specs.Listed.{blank_job};
 ghost use Rattle.head.specs.Placed.{placed_job, job_in, placed, state_in, HeadHanded, task_in, due_in, number_of, called_of};
-ghost use Rattle.scheduler.specs.declared.Stepped.{Stepped};
 ghost use Rattle.scheduler.specs.State.{Handed};
 ghost use Rattle.head.specs.Calls.{checked_table, HeadHandedOut, LinesChecked, stepped_for, head_step, Left, head_why};
 ghost use Rattle.head.specs.Claims.{Claims};
@@ -357,25 +356,59 @@ fn stepped_for(next: Stepped, jobs: [HeadJob; PLACES]) -> HeadStepped
     }
 }
 
+// The state that C keeps, taken over.
+fn opened(p: HeadState) -> State
+    requires { HeadHanded p }
+    ensures { result ≡ state_in p }
+{
+    state_in(p, jobs_in(p.jobs, p.count))
+}
+
+// What a call gives on a state that C keeps: its jobs are taken over again, as many as there were or are.
+fn closed(p: HeadState, next: Stepped) -> HeadStepped
+    requires { HeadHanded p × Handed next.state }
+    ensures { result ≡ stepped_for next }
+{
+    let n = p.count.max(next.state.list.count);
+    stepped_for(next, placed_jobs(p.jobs, next.state.list.jobs, n))
+}
+
 // Tick, by value. It leaves the jobs as they are, so none is taken over behind it.
 fn step_tick(p: HeadState, at: Tick) -> HeadStepped
     requires { HeadHanded p }
     ensures { (result ≡ head_step p (Wait at)) × HeadHanded result.state }
 {
-    let s = state_in(p, jobs_in(p.jobs, p.count));
+    let s = opened(p);
     let next = scheduler::tick(s, at);
     stepped_for(next, p.jobs)
 }
 
-// Any other call, by value: the state that C keeps is taken over, the call is made on it, and what it leaves is taken over again.
-fn step<F: FnOnce(State) -> Stepped>(p: HeadState, call: F) -> HeadStepped
-    requires { HeadHanded p × F.pre call (state_in p) × ((next : Stepped) → F.post call (state_in p) next → Handed next.state) }
-    ensures { (next : Stepped) × F.post call (state_in p) next × (result ≡ stepped_for next) }
+// The other calls, by value. (One function over a closure for the three would copy the state twice more.)
+fn step_activate(p: HeadState, at: Tick, task: u8) -> HeadStepped
+    requires { HeadHanded p }
+    ensures { (result ≡ head_step p (Activate at task)) × HeadHanded result.state }
 {
-    let s = state_in(p, jobs_in(p.jobs, p.count));
-    let next = call(s);
-    let n = p.count.max(next.state.list.count);
-    stepped_for(next, placed_jobs(p.jobs, next.state.list.jobs, n))
+    let s = opened(p);
+    let next = scheduler::activate(s, at, task);
+    closed(p, next)
+}
+
+fn step_terminate(p: HeadState, at: Tick) -> HeadStepped
+    requires { HeadHanded p }
+    ensures { (result ≡ head_step p (Terminate at)) × HeadHanded result.state }
+{
+    let s = opened(p);
+    let next = scheduler::terminate(s, at);
+    closed(p, next)
+}
+
+fn step_chain(p: HeadState, at: Tick, task: u8) -> HeadStepped
+    requires { HeadHanded p }
+    ensures { (result ≡ head_step p (Chain at task)) × HeadHanded result.state }
+{
+    let s = opened(p);
+    let next = scheduler::chain(s, at, task);
+    closed(p, next)
 }
 
 // ---- the question by value
@@ -385,7 +418,7 @@ fn ask_why(p: HeadState, task: u8) -> HeadWhy
     requires { HeadHanded p }
     ensures { result ≡ head_why p task }
 {
-    let s = state_in(p, jobs_in(p.jobs, p.count));
+    let s = opened(p);
     HeadWhy::from(scheduler::why(s, task))
 }
 
@@ -416,7 +449,7 @@ pub extern "C" fn head_activate(s: &mut HeadState, at: Tick, task: u8) -> HeadAn
     requires { HeadHanded s.old }
     ensures { Left s.old (Activate at task) result s.new }
 {
-    let next = step(*s, |state| scheduler::activate(state, at, task));
+    let next = step_activate(*s, at, task);
     *s = next.state;
     next.answer
 }
@@ -427,7 +460,7 @@ pub extern "C" fn head_terminate(s: &mut HeadState, at: Tick) -> HeadAnswer
     requires { HeadHanded s.old }
     ensures { Left s.old (Terminate at) result s.new }
 {
-    let next = step(*s, |state| scheduler::terminate(state, at));
+    let next = step_terminate(*s, at);
     *s = next.state;
     next.answer
 }
@@ -438,7 +471,7 @@ pub extern "C" fn head_chain(s: &mut HeadState, at: Tick, task: u8) -> HeadAnswe
     requires { HeadHanded s.old }
     ensures { Left s.old (Chain at task) result s.new }
 {
-    let next = step(*s, |state| scheduler::chain(state, at, task));
+    let next = step_chain(*s, at, task);
     *s = next.state;
     next.answer
 }

@@ -1,17 +1,7 @@
 -- `head::head_terminate` meets its contract: what the step gives is what it leaves. Assumes nothing.
-use mathlib.Core.Path.{refl}
 use Rattle.rules.specs.declared.Call.TheVariants.{Terminate}
-use borrow.Author.Rules.{rules}
-use Rattle.scheduler.specs.State.{CallGives}
-use Rattle.head.specs.Placed.{state_in}
-use Rattle.head.proofs.Handing.{steps}
 use Rattle.head.proofs.Calls.{left}
 use Rattle.head.proofs.head_terminate.Goals as goal
 
 pub returns : goal.returns
-returns c =
-    let p = c.args.s.now in
-    let e = (Terminate c.args.at) in
-    let next = c.step-next.ensures in
-    let gives : CallGives (state_in p) e next.0 = search rules in
-    left p e c.step-next.result c.requires (steps p e (state_in p) next.0 c.step-next.result refl gives next.2)
+returns c = left c.args.s.now (Terminate c.args.at) c.step_terminate-next.result c.requires c.step_terminate-next.ensures
