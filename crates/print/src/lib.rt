@@ -1,6 +1,9 @@
 // Lines as document 01 prints them, put on a page.
 #![tactic(auto)]
 
+ghost use Rattle.std.specs.Prelude.{[], ◌∷◌};
+ghost use Rattle.print.specs.Buffers.{Put};
+
 use rules::{Answer, Halt, KernelCall, Late, Named, PLACES, Running, Tick, Verdict};
 use std::fmt;
 
@@ -12,6 +15,17 @@ pub const ROOM: usize = 65536;
 pub struct Page {
     pub bytes: [u8; ROOM],
     pub len: usize,
+}
+
+// A byte put at a place, and the place behind it. (By `len` of a page the place would be stored for each byte of a text.)
+fn put(bytes: &mut [u8; ROOM], at: usize, b: u8) -> usize
+    ensures { Put bytes.old at (b ∷ []) bytes.new result }
+{
+    if at < ROOM {
+        bytes[at] = b;
+        return at + 1;
+    }
+    at
 }
 
 impl Page {
@@ -41,18 +55,17 @@ impl Page {
     pub fn byte(&mut self, b: u8)
         ensures { Put self.old.bytes self.old.len (b ∷ []) self.new.bytes self.new.len }
     {
-        if self.len < ROOM {
-            self.bytes[self.len] = b;
-            self.len += 1;
-        }
+        self.len = put(&mut self.bytes, self.len, b);
     }
 
     pub fn words(&mut self, text: &[u8])
         ensures { Put self.old.bytes self.old.len text.now self.new.bytes self.new.len }
     {
+        let mut next = self.len;
         for b in text {
-            self.byte(*b);
+            next = put(&mut self.bytes, next, *b);
         }
+        self.len = next;
     }
 
     pub fn number(&mut self, n: u64)

@@ -1,16 +1,15 @@
 -- A task's line is made of its parts. Assumes nothing.
 use Prim.Native.Nat.{ℕ}
-use mathlib.Core.Path.{◌≡◌, refl}
-use mathlib.Core.List.{◌∷◌, ◌++◌}
+use mathlib.Core.Path.{◌≡◌, refl, ap, ◌∙◌}
+use mathlib.Core.List.{List, [], ◌∷◌, ◌++◌, append_assoc}
 use Rattle.rules.specs.declared.Tick.{Tick}
 use Rattle.rules.specs.declared.Reason.TheVariants.{NonePending, ItRuns, Earlier, ThereFirst}
 use Rattle.std.specs.Prelude.{Result, Ok, Err}
 use Rattle.rules.specs.declared.Reason.{Reason}
 use Rattle.rules.specs.declared.CallRefusal.{CallRefusal}
-use Rattle.rules.specs.Answers.{call_number}
 use Rattle.rules.specs.Print.{ascii, decimal, spaced}
 use Rattle.rules.specs.WhyPrint.{reason_words, why_words, why_text}
-use Rattle.reasons.specs.Words.{waits_text}
+use Rattle.reasons.specs.Words.{waits_text, refused_text, named_text, refused_line}
 
 pub none_words : ascii "has no pending job" ≡ spaced (reason_words NonePending)
 unfolding spaced
@@ -28,9 +27,19 @@ pub there_words : (m : ℕ) (t : Tick) → waits_text m (ascii " was there first
 unfolding spaced
 there_words m t = refl
 
-pub refused_words : (k : CallRefusal) → ascii "is refused: " ++ decimal (call_number k) ≡ spaced (why_words (Err k))
+-- any number's words
+pub refused_words : (k : ℕ) → refused_text k ≡ spaced (ascii "is refused:" ∷ decimal k ∷ [])
 unfolding spaced
 refused_words k = refl
+
+-- what stands in front of a line's words stands in front of the whole
+pub in_front : (n : ℕ) (t : List ℕ) → named_text n ++ t ≡ ascii "task " ++ (decimal n ++ (32 ∷ t))
+in_front n t = append_assoc (ascii "task ") (decimal n ++ (32 ∷ [])) t ∙ ap (λ (s : List ℕ). ascii "task " ++ s) (append_assoc (decimal n) (32 ∷ []) t)
+
+-- the task, and then any number's words
+pub numbered_words : (n k : ℕ) → ascii "task " ++ (decimal n ++ (32 ∷ refused_text k)) ≡ refused_line n k
+unfolding spaced
+numbered_words n k = refl
 
 -- the task, and then an answer's words
 pub line_words : (n : ℕ) (w : Result Reason CallRefusal) → ascii "task " ++ (decimal n ++ (32 ∷ spaced (why_words w))) ≡ why_text n w

@@ -5,7 +5,7 @@ ghost use Rattle.rules.specs.Print.{spaced};
 ghost use Rattle.rules.specs.WhyPrint.{reason_words, why_words, why_text, why_lines, why_transcript};
 ghost use Rattle.scheduler.specs.State.{table_of, head_of, Handed};
 ghost use Rattle.print.specs.Buffers.{Put};
-ghost use Rattle.reasons.specs.Words.{waits_text, refused_text};
+ghost use Rattle.reasons.specs.Words.{waits_text, refused_text, named_text, refused_line};
 ghost use Rattle.reasons.specs.Claims.{Claims};
 
 use print::Page;
@@ -65,13 +65,28 @@ fn told(page: &mut Page, answer: Result<Reason, CallRefusal>)
     }
 }
 
-// A task's line without its newline.
-pub fn why(page: &mut Page, task: u8, answer: Result<Reason, CallRefusal>)
-    ensures { Put page.old.bytes page.old.len (why_text task answer) page.new.bytes page.new.len }
+// What a task's line begins with.
+fn named(page: &mut Page, task: u8)
+    ensures { Put page.old.bytes page.old.len (named_text task) page.new.bytes page.new.len }
 {
     page.words(b"task ");
     page.number(task as u64);
     page.byte(b' ');
+}
+
+// A task's line of a refused question without its newline, by any number: the promise for callers that have no refusal.
+pub fn why_refused(page: &mut Page, task: u8, number: u8)
+    ensures { Put page.old.bytes page.old.len (refused_line task number) page.new.bytes page.new.len }
+{
+    named(page, task);
+    refused(page, number);
+}
+
+// A task's line without its newline.
+pub fn why(page: &mut Page, task: u8, answer: Result<Reason, CallRefusal>)
+    ensures { Put page.old.bytes page.old.len (why_text task answer) page.new.bytes page.new.len }
+{
+    named(page, task);
     told(page, answer);
 }
 

@@ -4,6 +4,7 @@ use Rattle.std.specs.Prelude.{Result}
 use Rattle.print.proofs.Texts.{as_text}
 use Rattle.rules.specs.declared.Reason.{Reason}
 use Rattle.rules.specs.declared.CallRefusal.{CallRefusal}
+use Rattle.rules.specs.Answers.{call_number}
 use Rattle.rules.specs.Print.{spaced}
 use Rattle.rules.specs.WhyPrint.{why_words}
 use Rattle.reasons.specs.Words.{refused_text}
@@ -17,5 +18,5 @@ pub returns-in-Err : goal.returns-in-Err
 returns-in-Err c =
     let g = c.in-Err in
     as_text
-    (ap (λ k. refused_text k) c.from.ensures ∙ refused_words g.refusal ∙ sym (ap (λ (w : Result Reason CallRefusal). spaced (why_words w)) g.is))
+    (ap (λ k. refused_text k) c.from.ensures ∙ refused_words (call_number g.refusal) ∙ sym (ap (λ (w : Result Reason CallRefusal). spaced (why_words w)) g.is))
     c.refused.ensures

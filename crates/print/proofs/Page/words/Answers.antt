@@ -7,7 +7,7 @@ pub loop-b-init : goal.loop-b-init
 loop-b-init c = none_put _ _
 
 pub loop-b-preserved : goal.loop-b-preserved
-loop-b-preserved c = put_more c.args.text.now c.loop-b.b-index (search rules) c.loop-b.invariant c.byte.ensures
+loop-b-preserved c = put_more c.args.text.now c.loop-b.b-index (search rules) c.loop-b.invariant c.put-next.ensures
 
 pub returns : goal.returns
 returns c = put_all c.args.text.now c.loop-b.b-index (search rules) c.loop-b.invariant
