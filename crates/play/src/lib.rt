@@ -7,7 +7,7 @@ ghost use Rattle.play.specs.Run.{Kept};
 use jobs::JobList;
 use monitor::Monitor;
 use print::Page;
-use rules::{Job, Phase, Running, Tick, Verdict};
+use rules::{Answer, Job, Phase, Running, Tick, Verdict};
 use scheduler::State;
 use table::TaskTable;
 
@@ -72,12 +72,10 @@ fn counts(monitor: Monitor, tasks: usize) {
 
 // ---- calls
 
-// The words in front of an answer.
-fn page_of(text: &[u8]) -> Page {
-    let mut page = Page::new();
+// The words in front of an answer. (A page is made where it is sent: given by value it would be copied.)
+fn question(page: &mut Page, text: &[u8]) {
     page.words(text);
     page.words(b" -> ");
-    page
 }
 
 // 'why 2': why the task's first pending job does or does not run.
@@ -85,8 +83,19 @@ fn waits(run: Run, text: &[u8])
     requires { Handed run.state }
 {
     let task = script::task_of(text);
-    let mut page = page_of(text);
+    let mut page = Page::new();
+    question(&mut page, text);
     reasons::why(&mut page, task, lent::why(run.state, task));
+    show::send(&mut page);
+}
+
+// A call's answer. (In a function of its own, as each page that is sent: else its place would be cleared twice.)
+fn told(text: &[u8], bare: bool, tick: Tick, answer: Answer) {
+    let mut page = Page::new();
+    if !bare {
+        question(&mut page, text);
+    }
+    page.answer(tick, answer);
     show::send(&mut page);
 }
 
@@ -97,9 +106,7 @@ fn called(run: Run, text: &[u8]) -> Run
 {
     let call = script::call_of(text);
     let stepped = lent::call(run.state, call);
-    let mut page = if run.bare { Page::new() } else { page_of(text) };
-    page.answer(records::tick_of(call), stepped.answer);
-    show::send(&mut page);
+    told(text, run.bare, records::tick_of(call), stepped.answer);
     Run {
         state: stepped.state,
         bare: run.bare,
@@ -107,7 +114,8 @@ fn called(run: Run, text: &[u8]) -> Run
 }
 
 fn no_table(text: &[u8]) {
-    let mut page = page_of(text);
+    let mut page = Page::new();
+    question(&mut page, text);
     page.words(b"no table");
     show::send(&mut page);
 }
@@ -124,14 +132,16 @@ fn fresh(page: &mut Page, state: State) {
 
 // 'check 3 12 2, 5 11 2': the check's answer.
 fn checked(text: &[u8]) {
-    let mut page = page_of(text);
+    let mut page = Page::new();
+    question(&mut page, text);
     page.verdict(lent::check(script::table_of(text)).verdict);
     show::send(&mut page);
 }
 
 // 'state 3 12 2, 5 11 2': the state that the check leaves.
 fn left(text: &[u8]) {
-    let mut page = page_of(text);
+    let mut page = Page::new();
+    question(&mut page, text);
     fresh(&mut page, lent::check(script::table_of(text)).state);
     show::send(&mut page);
 }

@@ -280,9 +280,10 @@ impl<const N: usize> Room<N> {
     {
         if let [.., high, low] = word {
             let b = hex_digit(*high) * 16 + hex_digit(*low);
-            for _ in 0..times(word).min(N as u64) {
-                self.push(b);
-            }
+            let more = times(word).min((N - self.len) as u64) as usize;
+            let room = &mut self.bytes[..];
+            room[self.len..self.len + more].fill(b);
+            self.len += more;
         }
     }
 
