@@ -22,7 +22,7 @@
  * of several heads that share a processor are lines of one table.
  *
  * Pointers are not null, are aligned, and point to whole structs: `lines` to `count` of them. Calls on one state
- * go one after the other. The library has no memory of its own but the stack, of which a call takes some 4 KB
+ * go one after the other. The library has no memory of its own but the stack, of which a call takes some 8 KB
  * (measured, not proved), and calls memcpy, memmove and memset.
  */
 #ifndef HEAD_H
